@@ -1,0 +1,6 @@
+pub mod Faults
+pub mod Sources
+pub mod Sinks
+pub mod Memory
+pub mod Whole
+pub mod Standard
