@@ -1,0 +1,9 @@
+pub mod Zips
+pub mod Presence
+pub mod Offsets
+pub mod Leaves
+pub mod Rows
+pub mod Pointwise
+pub mod Equalities
+pub mod Named
+pub mod Heights

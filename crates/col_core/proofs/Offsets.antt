@@ -1,0 +1,81 @@
+-- Bytes that are cut at offsets.
+use Rattle.std.proofs.Common.{◌≡◌, ℕ, zero, suc, ◌+◌, ◌-◌, ◌<◌, ◌≤◌, List, [], ◌∷◌, ◌++◌, length, drop, get_or, slice_get, Some, refl, sym, ap, ◌∙◌, subst, arith, zero-add, ◌⊎◌, inl, inr}
+use Rattle.std.proofs.lemmas.List.{length-append, length-drop, take_all, drop-append-le, take-append-le, get_or_append_left}
+use Rattle.std.proofs.lemmas.List.FromFn.{length-map-range_with_len, get_or-map-range_with_len, fill_by_all}
+use Rattle.std.proofs.Math.ListN.{drop_of_length-le}
+use Rattle.std.proofs.lemmas.Bool.{cases_lt}
+use Rattle.std.proofs.Math.Seq.{get_or-append_seam}
+use Rattle.std.proofs.lemmas.Option.{slice_get-get_or}
+use Rattle.col_core.specs.Arrays.{piece, pieces, AreOffsets, opened}
+
+pub length-pieces : (bytes offsets : List ℕ) → length (pieces bytes offsets) ≡ length offsets - 1
+length-pieces bytes offsets = length-map-range_with_len (piece bytes offsets) 0 (length offsets - 1)
+
+pub piece_at : (bytes offsets : List ℕ) (i : ℕ) (d : List ℕ) → i < length offsets - 1 → get_or (pieces bytes offsets) i d ≡ piece bytes offsets i
+piece_at bytes offsets i d h = get_or-map-range_with_len (piece bytes offsets) 0 (length offsets - 1) i i d h (zero-add i)
+
+pub slice_get-pieces : (bytes offsets : List ℕ) (i : ℕ) → i < length offsets - 1 → slice_get (pieces bytes offsets) i ≡ Some (piece bytes offsets i)
+slice_get-pieces bytes offsets i h = slice_get-get_or (pieces bytes offsets) i [] (rw (length-pieces bytes offsets) h) ∙ ap Some (piece_at bytes offsets i [] h)
+
+pub step_up : (bytes offsets : List ℕ) (i : ℕ) → AreOffsets bytes offsets → i + 1 < length offsets → get_or offsets i 0 ≤ get_or offsets (i + 1) 0
+step_up bytes offsets i h l = h.ascend i (i + 1) (omega arith) l
+
+pub within_bytes : (bytes offsets : List ℕ) (i : ℕ) → AreOffsets bytes offsets → i < length offsets → get_or offsets i 0 ≤ length bytes
+within_bytes bytes offsets i h l = subst (λ e. get_or offsets i 0 ≤ e) h.end (h.ascend i (length offsets - 1) (omega arith) (omega arith))
+
+pub no_offsets : AreOffsets [] []
+no_offsets = record { start = refl; ascend = λ i j h l. absurd (omega arith); end = refl }
+
+-- a piece lies before what is appended
+piece_before : (bytes more offsets : List ℕ) (e i : ℕ) → AreOffsets bytes offsets → i + 1 < length offsets → piece (bytes ++ more) (offsets ++ e ∷ []) i ≡ piece bytes offsets i
+piece_before bytes more offsets e i h l =
+    let a = get_or offsets i 0 in
+    let b = get_or offsets (i + 1) 0 in
+    let up : a ≤ b = step_up bytes offsets i h l in
+    let within : b ≤ length bytes = within_bytes bytes offsets (i + 1) h l in
+    let low : a ≤ length bytes = omega arith in
+    let short : b - a ≤ length (drop a bytes) = rw length-drop (omega arith) in
+    rw (get_or_append_left offsets (e ∷ []) 0 i (omega arith), get_or_append_left offsets (e ∷ []) 0 (i + 1) l, drop-append-le a bytes more low)
+    (take-append-le (b - a) (drop a bytes) more short)
+
+-- what is appended is the last piece
+piece_after : (bytes more offsets : List ℕ) (n : ℕ) → AreOffsets bytes offsets → n + 1 ≡ length offsets → piece (bytes ++ more) (offsets ++ length (bytes ++ more) ∷ []) n ≡ more
+piece_after bytes more offsets n h l =
+    let e = length (bytes ++ more) in
+    let last : n ≡ length offsets - 1 = omega arith in
+    let from : get_or (offsets ++ e ∷ []) n 0 ≡ length bytes = get_or_append_left offsets (e ∷ []) 0 n (omega arith) ∙ ap (λ k. get_or offsets k 0) last ∙ h.end in
+    let upto : get_or (offsets ++ e ∷ []) (n + 1) 0 ≡ e = ap (λ k. get_or (offsets ++ e ∷ []) k 0) l ∙ get_or-append_seam offsets e [] 0 in
+    let rest : drop (length bytes) (bytes ++ more) ≡ more = drop-append-le (length bytes) bytes more (omega arith) ∙ ap (λ front. front ++ more) (drop_of_length-le bytes (omega arith)) in
+    rw (from, upto, rest) (take_all (e - length bytes) more (omega (arith, length-append bytes more)))
+
+-- each piece, with one more
+piece_of : (bytes more offsets : List ℕ) (k : ℕ) → 0 < length offsets → AreOffsets bytes offsets → k < length offsets → (k < length offsets - 1) ⊎ (length offsets - 1 ≤ k)
+    → get_or (pieces bytes offsets ++ more ∷ []) k [] ≡ piece (bytes ++ more) (offsets ++ length (bytes ++ more) ∷ []) k
+piece_of bytes more offsets k some h l (inl before) =
+    get_or_append_left (pieces bytes offsets) (more ∷ []) [] k (rw (length-pieces bytes offsets) before)
+    ∙ piece_at bytes offsets k [] before ∙ sym (piece_before bytes more offsets (length (bytes ++ more)) k h (omega arith))
+piece_of bytes more offsets k some h l (inr after) =
+    let at_end : k ≡ length (pieces bytes offsets) = omega (arith, length-pieces bytes offsets) in
+    ap (λ i. get_or (pieces bytes offsets ++ more ∷ []) i []) at_end ∙ get_or-append_seam (pieces bytes offsets) more [] []
+    ∙ sym (piece_after bytes more offsets k h (omega arith))
+
+-- one more piece
+pieces_more : (bytes more offsets : List ℕ) → 0 < length offsets → AreOffsets bytes offsets → pieces (bytes ++ more) (offsets ++ length (bytes ++ more) ∷ []) ≡ pieces bytes offsets ++ more ∷ []
+pieces_more bytes more offsets some h =
+    let e = length (bytes ++ more) in
+    let long : length (offsets ++ e ∷ []) ≡ length offsets + 1 = length-append offsets (e ∷ []) in
+    let count : length (pieces bytes offsets ++ more ∷ []) ≡ length (offsets ++ e ∷ []) - 1 = omega (arith, length-append (pieces bytes offsets) (more ∷ []), length-pieces bytes offsets) in
+    sym (fill_by_all (piece (bytes ++ more) (offsets ++ e ∷ [])) (pieces bytes offsets ++ more ∷ []) (length (offsets ++ e ∷ []) - 1) [] count
+    (λ k l. piece_of bytes more offsets k some h (omega arith) (cases_lt k (length offsets - 1))))
+
+at_zero : (i : ℕ) → ◌≡◌ {A = ℕ} (get_or (0 ∷ []) i 0) 0
+at_zero zero = refl
+at_zero (suc i) = refl
+
+pub pieces-push : (bytes more offsets : List ℕ) → AreOffsets bytes offsets → pieces (bytes ++ more) (opened offsets ++ length (bytes ++ more) ∷ []) ≡ pieces bytes offsets ++ more ∷ []
+pieces-push bytes more [] h = pieces_more bytes more (0 ∷ []) (omega arith) (record { start = refl; ascend = λ i j le l. rw (at_zero i) (omega arith); end = h.end })
+pieces-push bytes more (o ∷ offsets) h = pieces_more bytes more (o ∷ offsets) (omega arith) h
+
+pub ruleset cuts = (length-pieces, slice_get-pieces, step_up, within_bytes, no_offsets)
+
+pub ruleset pushes = (length-pieces, pieces-push)

@@ -1,0 +1,103 @@
+-- Columns as rows.
+use Rattle.std.proofs.Common.{◌≡◌, ℕ, zero, suc, ◌+◌, ◌<◌, ◌≤◌, take, drop, List, [], ◌∷◌, map, length, get_or, slice_get, Some, refl, sym, ap, ◌∙◌, subst, arith, zero-add}
+use Rattle.std.specs.List.{All, range_with_len}
+use Rattle.std.proofs.lemmas.List.{drop_more, length-map, get_or-map}
+use Rattle.std.proofs.lemmas.List.FromFn.{length-map-range_with_len, get_or-map-range_with_len, fill_by_all}
+use Rattle.std.proofs.lemmas.List.Elements.{All-nil, All-cons, All-get_or, All-weaker, All-map}
+use mathlib.Core.List.{map-map}
+use Rattle.col_core.specs.declared.leaf.Leaf.{Leaf}
+use Rattle.col_core.specs.declared.leaf.Leaf.TheVariants as leaves
+use Rattle.col_core.specs.declared.schema.Field.{Field}
+use Rattle.col_core.specs.Values.{value_at}
+use Rattle.col_core.specs.Tables.{Row, row_at, rows_from, values_at, rows_at, column_of, Column, values_of, header, AreColumnsOf, taken, IsBuildable, AreWide}
+
+-- a map agrees where its function does
+pub map_agree : {A B : Type 0} (f g : A → B) → ((a : A) → f a ≡ g a) → (xs : List A) → map f xs ≡ map g xs
+map_agree f g h [] = refl
+map_agree f g h (x ∷ xs) = cc (h x, map_agree f g h xs)
+
+-- and on a list whose elements it agrees on
+pub map_agree_on : {A B : Type 0} (f g : A → B) (xs : List A) → ((k : ℕ) (d : A) → k < length xs → f (get_or xs k d) ≡ g (get_or xs k d)) → map f xs ≡ map g xs
+map_agree_on f g [] h = refl
+map_agree_on f g (x ∷ xs) h = cc (h 0 x (omega arith), map_agree_on f g xs (λ k d l. h (suc k) d (omega arith)))
+
+-- a row of columns that are given row by row
+at_row : {C X : Type 0} (f : C → X → Leaf) (cs : List C) (xs : List X) (d : X) (k : ℕ) → k < length xs → row_at (map (λ c. map (f c) xs) cs) k ≡ map (λ c. f c (get_or xs k d)) cs
+at_row f cs xs d k h = map-map (λ (values : List Leaf). value_at values k) (λ c. map (f c) xs) cs ∙ map_agree _ _ (λ c. get_or-map (f c) xs k d leaves.Null h) cs
+
+-- the rows of columns that are given row by row
+pub transposed : {C X : Type 0} (f : C → X → Leaf) (cs : List C) (xs : List X) → rows_from (length xs) (map (λ c. map (f c) xs) cs) ≡ map (λ x. map (λ c. f c x) cs) xs
+transposed f cs [] = refl
+transposed f cs (x ∷ xs) = sym (fill_by_all (row_at (map (λ c. map (f c) (x ∷ xs)) cs)) (map (λ y. map (λ c. f c y) cs) (x ∷ xs)) (length (x ∷ xs)) [] (length-map (x ∷ xs) (λ y. map (λ c. f c y) cs)) (λ k h.
+    get_or-map (λ y. map (λ c. f c y) cs) (x ∷ xs) k x [] h ∙ sym (at_row f cs (x ∷ xs) x k h)))
+
+pub length-rows : (n : ℕ) (columns : List (List Leaf)) → length (rows_from n columns) ≡ n
+length-rows n columns = length-map-range_with_len (row_at columns) 0 n
+
+-- a row among the rows
+pub row_among : (n : ℕ) (columns : List (List Leaf)) (i : ℕ) → i < n → get_or (rows_from n columns) i [] ≡ row_at columns i
+row_among n columns i h = get_or-map-range_with_len (row_at columns) 0 n i i [] h (zero-add i)
+
+-- the rows at places, column by column
+pub rows_taken : (n : ℕ) (columns : List (List Leaf)) (places : List ℕ) → All (λ i. i < n) places → rows_from (length places) (map (λ values. values_at values places) columns) ≡ rows_at (rows_from n columns) places
+rows_taken n columns places all = transposed (λ values i. value_at values i) columns places
+    ∙ map_agree_on (row_at columns) (λ i. get_or (rows_from n columns) i []) places (λ k d h. sym (row_among n columns (get_or places k d) (All-get_or (λ (i : ℕ). i < n) places k d h all)))
+
+-- the same of whole columns
+pub columns_taken : (columns : List Column) (n : ℕ) (rows : List Row) (places : List ℕ) → rows ≡ rows_from n (values_of columns) → All (λ i. i < n) places → rows_from (length places) (values_of (map (taken places) columns)) ≡ rows_at rows places
+columns_taken columns n rows places e inside =
+    ap (rows_from (length places)) (map-map (λ (x : Column). x.values) (taken places) columns ∙ sym (map-map (λ (vs : List Leaf). values_at vs places) (λ (x : Column). x.values) columns))
+    ∙ rows_taken n (values_of columns) places inside ∙ ap (λ (xs : List Row). rows_at xs places) (sym e)
+
+-- rows one after the other
+pub rows_in_range : (rows : List Row) (start len : ℕ) → start + len ≤ length rows → rows_at rows (range_with_len start len) ≡ take len (drop start rows)
+rows_in_range rows start zero h = refl
+rows_in_range rows start (suc len) h =
+    ap (λ rest. get_or rows start [] ∷ rest) (rows_in_range rows (start + 1) len (omega arith)) ∙ sym (ap (take (suc len)) (drop_more rows start [] (omega arith)))
+
+pub range_within : (start len n : ℕ) → start + len ≤ n → All (λ i. i < n) (range_with_len start len)
+range_within start zero n h = All-nil (λ (i : ℕ). i < n)
+range_within start (suc len) n h = All-cons (λ (i : ℕ). i < n) start (range_with_len (start + 1) len) (omega arith) (range_within (start + 1) len n (omega arith))
+
+-- a column, from the rows
+pub column_from_rows : (columns : List Column) (n i : ℕ) (c : Column) → All (λ c. length c.values ≡ n) columns → i < length columns → c ≡ get_or columns i c → c.values ≡ column_of i (rows_from n (values_of columns))
+column_from_rows columns n i c lengths h e =
+    let values = values_of columns in
+    let long : length c.values ≡ n = rw e (All-get_or (λ (c : Column). length c.values ≡ n) columns i c h lengths) in
+    let at : get_or values i [] ≡ c.values = get_or-map (λ (c : Column). c.values) columns i c [] h ∙ ap (λ (c : Column). c.values) (sym e) in
+    let inside : i < length values = rw (length-map columns (λ (c : Column). c.values)) h in
+    fill_by_all (value_at c.values) c.values n leaves.Null long (λ k l. refl)
+    ∙ map_agree (value_at c.values) (λ k. value_at (row_at values k) i) (λ k. ap (λ vs. value_at vs k) (sym at) ∙ sym (get_or-map (λ vs. value_at vs k) values i [] leaves.Null inside)) (range_with_len 0 n)
+    ∙ sym (map-map (λ row. value_at row i) (row_at values) (range_with_len 0 n))
+
+-- a column's field
+pub field_of : (columns : List Column) (schema : List Field) (i : ℕ) (c : Column) → map header columns ≡ schema → i < length columns → c ≡ get_or columns i c → slice_get schema i ≡ Some (header c)
+field_of columns schema i c e h f = rw (← e) (along columns i h f)
+  where
+    along : (cs : List Column) (i : ℕ) → i < length cs → c ≡ get_or cs i c → slice_get (map header cs) i ≡ Some (header c)
+    along [] i h f = absurd (omega arith)
+    along (x ∷ cs) zero h f = cc
+    along (x ∷ cs) (suc i) h f = along cs i (omega arith) f
+
+-- a column that was found at a place has a type that is built, if each field has
+pub buildable_at : (columns : List Column) (schema : List Field) (i : ℕ) (c : Column) → map header columns ≡ schema → All (λ (f : Field). IsBuildable f.dtype) schema → i < length columns → c ≡ get_or columns i c → IsBuildable c.dtype
+buildable_at columns schema i c e all h f =
+    let same : get_or (map header columns) i (header c) ≡ header c = get_or-map header columns i c (header c) h ∙ ap header (sym f) in
+    let inside : i < length (map header columns) = rw (length-map columns header) h in
+    subst (λ (f : Field). IsBuildable f.dtype) same (All-get_or (λ (f : Field). IsBuildable f.dtype) (map header columns) i (header c) inside (subst (All (λ (f : Field). IsBuildable f.dtype)) (sym e) all))
+
+-- the values of columns at places stand under the same schema
+pub under_taken : (schema : List Field) (columns : List Column) (n : ℕ) (places : List ℕ) → AreColumnsOf schema columns n → All (λ i. i < n) places → AreColumnsOf schema (map (taken places) columns) (length places)
+under_taken schema columns n places under inside = record {
+  headers = map-map header (taken places) columns ∙ under.headers;
+  lengths = All-map (λ (c : Column). length c.values ≡ length places) (taken places) columns (All-weaker (λ (c : Column). length c.values ≡ n) _ (λ c h. length-map places (value_at c.values)) columns under.lengths);
+}
+
+-- each row of columns has a value for each field
+pub wide : (schema : List Field) (columns : List Column) (n : ℕ) → map header columns ≡ schema → AreWide (record { schema = schema; rows = rows_from n (values_of columns) })
+wide schema columns n e k d h =
+    let short : k < n = subst (λ (m : ℕ). k < m) (length-rows n (values_of columns)) h in
+    ap length (get_or-map-range_with_len (row_at (values_of columns)) 0 n k k d short (zero-add k))
+    ∙ length-map (values_of columns) (λ values. value_at values k) ∙ length-map columns (λ (c : Column). c.values) ∙ sym (length-map columns header) ∙ ap length e
+
+pub ruleset row_facts = (length-rows, column_from_rows, field_of)

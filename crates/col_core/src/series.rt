@@ -1,0 +1,216 @@
+//! Columns.
+ghost use Rattle.std.specs.Prelude.{◌≡◌, ◌<◌, ◌≤◌, ◌+◌, ◌^◌, not, length, IfOk, IfErr, None};
+ghost use Rattle.std.specs.List.{All, count_by, list_any, range_with_len};
+ghost use Rattle.std.specs.Option.{unwrap_or};
+ghost use Rattle.col_core.specs.declared.series.ColumnError.TheVariants.{Memory};
+ghost use Rattle.col_core.specs.Refusals.{column_refusal};
+ghost use Rattle.col_core.specs.Tables.{Column, leaves_of, taken, AreChunksOf, IsBuildable, is_of_kind};
+ghost use Rattle.col_core.specs.Values.{value_at, Fits, is_null, is_text};
+
+use crate::IdxSize;
+use crate::builder::ColumnBuilder;
+use crate::chunk::Chunk;
+use crate::data_type::DataType;
+use crate::leaf::Leaf;
+use crate::text::Name;
+use std::alloc::{AllocError, Global};
+use std::marker::Model;
+
+/// A column: a name, a type and chunks. Contracts see the values, and not how they are cut
+/// into chunks.
+#[derive(Debug, Drop)]
+pub struct Series {
+    name: Name,
+    dtype: DataType,
+    chunks: Vec<Chunk>,
+}
+
+impl Model for Series {
+    ghost use Rattle.col_core.specs.Tables.{Column, leaves_of, AreChunksOf};
+
+    ghost Value = { Column };
+
+    ghost view = { λ s. record { name = s.name; dtype = s.dtype; values = leaves_of s.chunks.items } };
+
+    ghost invariant = { λ s. AreChunksOf s.dtype s.chunks.items };
+}
+
+/// Why chunks make no column.
+#[derive(Clone, Copy, PartialEq, Eq, Debug)]
+pub enum ColumnError {
+    /// 1: a chunk is not of the type's physical kind.
+    WrongPhysical,
+    /// 2: the type is `String`, and a present item is not UTF-8.
+    NotUtf8,
+    /// 3: want of memory.
+    Memory,
+}
+
+#[tactic(auto, using(crate::proofs::Leaves::steps))]
+impl Series {
+    /// A column of the chunks' values, one chunk after the other. The refusals come in the order
+    /// of `ColumnError`, the first that holds; no chunk at all makes an empty column of any type.
+    pub fn new(
+        _alloc: Global,
+        name: Name,
+        dtype: DataType,
+        chunks: Vec<Chunk>,
+    ) -> Result<Series, ColumnError>
+        requires { length (leaves_of chunks.items) < 2 ^ 64 }
+        ensures ok { IfOk result (λ s. s ≡ record { name = name; dtype = dtype; values = leaves_of chunks.items }) }
+        ensures accepted { IfOk result (λ _. column_refusal dtype chunks.items ≡ None) }
+        ensures refused { IfErr result (λ e. e ≡ unwrap_or (column_refusal dtype chunks.items) Memory) }
+    {
+        match refusal_of(dtype, &chunks) {
+            Some(refusal) => Err(refusal),
+            None => Ok(Series::from_chunks(name, dtype, chunks)),
+        }
+    }
+
+    /// A column of chunks that are of its type.
+    pub fn from_chunks(name: Name, dtype: DataType, chunks: Vec<Chunk>) -> Series
+        requires { AreChunksOf dtype chunks.items }
+        ensures { result ≡ record { name = name; dtype = dtype; values = leaves_of chunks.items } }
+    {
+        Series {
+            name,
+            dtype,
+            chunks,
+        }
+    }
+
+    /// The same column under another name.
+    pub(crate) fn with_name(self, name: Name) -> Series
+        ensures { result ≡ record self { name = name } }
+    {
+        Series { name, ..self }
+    }
+
+    /// The column's name.
+    pub fn name(&self) -> &Name
+        ensures { result.now ≡ self.now.name }
+    {
+        &self.name
+    }
+
+    /// The column's type.
+    pub fn dtype(&self) -> DataType
+        ensures { result ≡ self.now.dtype }
+    {
+        self.dtype
+    }
+
+    /// The chunks, whose values one chunk after the other are the column's.
+    pub fn chunks(&self) -> &[Chunk]
+        ensures values { leaves_of result.now ≡ self.now.values }
+        ensures fit { AreChunksOf self.now.dtype result.now }
+    {
+        &self.chunks
+    }
+
+    /// The number of values, nulls among them.
+    pub fn len(&self) -> usize
+        ensures { result ≡ length self.now.values }
+    {
+        let mut n = 0;
+        for chunk in self.chunks() {
+            n += chunk.len();
+        }
+        n
+    }
+
+    /// The number of nulls.
+    #[tactic(auto, using(crate::proofs::Leaves::tallies))]
+    pub fn null_count(&self) -> usize
+        ensures { result ≡ count_by is_null self.now.values }
+    {
+        let mut n = 0;
+        for chunk in self.chunks() {
+            n += chunk.null_count();
+        }
+        n
+    }
+
+    /// The value at a place, which fits the type.
+    pub fn leaf(&self, alloc: Global, i: usize) -> Result<Leaf, AllocError>
+        requires { i < length self.now.values }
+        ensures value { IfOk result (λ v. v ≡ value_at self.now.values i) }
+        ensures fits { IfOk result (λ v. Fits self.now.dtype v) }
+    {
+        let mut rest = i;
+        for chunk in self.chunks() {
+            let n = chunk.len();
+            if rest < n {
+                let value = chunk.leaf(alloc, rest)?;
+                return Ok(value);
+            }
+            rest -= n;
+        }
+        unreachable!()
+    }
+
+    /// The values at indexes, in the order of the indexes, in one chunk under the same name.
+    pub fn take(&self, alloc: Global, idxs: &[IdxSize]) -> Result<Series, AllocError>
+        requires in_bounds { All (λ i. i < length self.now.values) idxs.now }
+        requires built { IsBuildable self.now.dtype }
+        ensures { IfOk result (λ s. s ≡ taken idxs.now self.now) }
+    {
+        let mut built = ColumnBuilder::new(alloc, self.dtype());
+        for idx in idxs {
+            built.push_from(self, *idx as usize)?;
+        }
+        built.finish(alloc, Name::new(alloc, self.name().as_str())?)
+    }
+
+    /// The `len` values from `start` on, in one chunk under the same name.
+    pub(crate) fn slice(
+        &self,
+        alloc: Global,
+        start: usize,
+        len: usize,
+    ) -> Result<Series, AllocError>
+        requires in_bounds { start + len ≤ length self.now.values }
+        requires built { IsBuildable self.now.dtype }
+        ensures { IfOk result (λ s. s ≡ taken (range_with_len start len) self.now) }
+    {
+        let _count = self.len();
+        let mut built = ColumnBuilder::new(alloc, self.dtype());
+        for i in 0..len {
+            built.push_from(self, start + i)?;
+        }
+        built.finish(alloc, Name::new(alloc, self.name().as_str())?)
+    }
+}
+
+/// The first cause for which chunks make no column, but for memory.
+fn refusal_of(dtype: DataType, chunks: &[Chunk]) -> Option<ColumnError>
+    ensures { result ≡ column_refusal dtype chunks.now }
+{
+    if has_other_kind(dtype, chunks) {
+        return Some(ColumnError::WrongPhysical);
+    }
+    if has_bad_text(dtype, chunks) {
+        return Some(ColumnError::NotUtf8);
+    }
+    None
+}
+
+/// Whether some chunk is not of the type's physical kind.
+fn has_other_kind(dtype: DataType, chunks: &[Chunk]) -> bool
+    ensures { result ≡ list_any (λ chunk. not (is_of_kind dtype chunk)) chunks.now }
+{
+    chunks.iter().any(|chunk| !chunk.is_of_kind(dtype))
+}
+
+/// Whether some present item is no text, where the type is one of texts.
+#[tactic(auto, using(crate::proofs::Leaves::bad))]
+fn has_bad_text(dtype: DataType, chunks: &[Chunk]) -> bool
+    ensures { result ≡ list_any (λ value. not (is_text dtype value)) (leaves_of chunks.now) }
+{
+    for chunk in chunks {
+        if chunk.has_bad_text(dtype) {
+            return true;
+        }
+    }
+    false
+}
