@@ -1,0 +1,9 @@
+pub use Rattle.reduce_model.specs.Folds
+pub use Rattle.reduce_model.specs.Orders
+pub mod Keys
+pub mod Joined
+pub mod Filtered
+pub mod Groups
+pub mod Answers
+pub mod Refusals
+pub mod Examples

@@ -1,0 +1,12 @@
+//! Queries, and what their answers are: the nested-loop rows, the groups, the two answer tables and the first refusal.
+#![tactic(auto)]
+
+mod examples;
+mod query;
+
+pub use examples::{
+    filter_example, inner_join_example, null_key_example, outer_join_example, refusal_examples,
+    report_example,
+};
+pub use query::{ColumnRef, Filter, FilterOp, IntLiteral, Operand, Plan, Query, Reduction, Side};
+pub use reduce_model::ReductionKind;
