@@ -1,0 +1,123 @@
+-- Columns gathered from places, and the rows that they make.
+use Rattle.std.proofs.Common.{◌≡◌, ℕ, ◌<◌, List, [], ◌++◌, map, length, get_or, slice_get, Some, refl, sym, ap, ◌∙◌, subst}
+use Rattle.std.specs.List.{All, range_with_len}
+use Rattle.std.proofs.lemmas.List.{length-map, map-append, get_or-map}
+use Rattle.std.proofs.lemmas.List.FromFn.{fill_by_all}
+use Rattle.std.proofs.lemmas.List.Elements.{All-get_or, All-map, All-append, All-weaker}
+use Rattle.std.proofs.lemmas.Option.{get_or_from_slice_get}
+use mathlib.Core.List.{map-map}
+use Rattle.col_core.specs.declared.leaf.Leaf.{Leaf}
+use Rattle.col_core.specs.declared.leaf.Leaf.TheVariants as leaves
+use Rattle.col_core.specs.declared.schema.Field.{Field}
+use Rattle.col_core.specs.Values.{value_at}
+use Rattle.col_core.specs.Tables.{Row, Table, Column, rows_from, header, values_of}
+use Rattle.col_core.proofs.Rows.{transposed, map_agree, map_agree_on}
+use Rattle.join_model.specs.Answers.{prefixed}
+use Rattle.join_engine.specs.declared.places.RowPlace.{RowPlace}
+use Rattle.join_engine.specs.declared.pairs.Pair.{Pair}
+use Rattle.join_engine.specs.Places.{row_of, IsPlace, AllHave, no_table, no_field, field_at, placed_values, gathered, gathered_column}
+use Rattle.join_engine.specs.Pairs.{pair_row, IsPair}
+
+-- the field that was found at a place
+pub field_found : (schema : List Field) (c : ℕ) (f : Field) → slice_get schema c ≡ Some f → field_at schema c ≡ f
+field_found schema c f h = get_or_from_slice_get schema c f no_field h
+
+-- a column's type, in a frame of the schema
+pub type_in_frame : (schema : List Field) (frames : List Table) (place : RowPlace) (frame : Table) (c : ℕ) (column : Column) → AllHave schema frames → IsPlace frames place → frame ≡ get_or frames place.frame frame → slice_get frame.schema c ≡ Some (header column) → column.dtype ≡ (field_at schema c).dtype
+type_in_frame schema frames place frame c column have inside e h =
+    let same : frame.schema ≡ schema = rw e (All-get_or (λ (t : Table). t.schema ≡ schema) frames place.frame frame inside.frame have) in
+    ap (λ (f : Field). f.dtype) (sym (field_found frame.schema c (header column) h)) ∙ ap (λ (s : List Field). (field_at s c).dtype) same
+
+pub ruleset gathering = (field_found, type_in_frame)
+
+-- the headers of gathered columns are the fields, each name after the prefix
+pub headers_gathered : (prefix : List ℕ) (schema : List Field) (frames : List Table) (places : List RowPlace) → map header (gathered prefix schema frames places) ≡ prefixed prefix schema
+headers_gathered prefix schema frames places =
+    let named : Field → Field = λ f. record { name = prefix ++ f.name; dtype = f.dtype } in
+    map-map header (gathered_column prefix schema frames places) (range_with_len 0 (length schema))
+    ∙ sym (fill_by_all (λ c. named (field_at schema c)) (map named schema) (length schema) no_field (length-map schema named) (λ k h. get_or-map named schema k no_field no_field h))
+
+-- gathered columns are as long as the places
+pub long_gathered : (prefix : List ℕ) (schema : List Field) (frames : List Table) (places : List RowPlace) → All (λ (c : Column). length c.values ≡ length places) (gathered prefix schema frames places)
+long_gathered prefix schema frames places = All-map (λ (c : Column). length c.values ≡ length places) (gathered_column prefix schema frames places) (range_with_len 0 (length schema)) (λ k d l. length-map places (λ place. value_at (row_of frames place) (get_or (range_with_len 0 (length schema)) k d)))
+
+-- a row is its values
+row_whole : (row : Row) (width : ℕ) → length row ≡ width → map (value_at row) (range_with_len 0 width) ≡ row
+row_whole row width h = sym (fill_by_all (value_at row) row width leaves.Null h (λ k l. refl))
+
+-- a row at a place in frames of a schema is as wide as the schema
+wide_at : (schema : List Field) (frames : List Table) (place : RowPlace) → AllHave schema frames → IsPlace frames place → length (row_of frames place) ≡ length schema
+wide_at schema frames place have inside = inside.width ∙ ap length (All-get_or (λ (t : Table). t.schema ≡ schema) frames place.frame no_table inside.frame have)
+
+-- the places of pairs, side by side
+pub left_places : (P B : List Table) (pairs : List Pair) → All (IsPair P B) pairs → All (IsPlace P) (map (λ (pr : Pair). pr.probe) pairs)
+left_places P B pairs inside = All-map (IsPlace P) (λ (pr : Pair). pr.probe) pairs (All-weaker (IsPair P B) (λ (pr : Pair). IsPlace P pr.probe) (λ pr h. h.probe_place) pairs inside)
+
+pub right_places : (P B : List Table) (pairs : List Pair) → All (IsPair P B) pairs → All (IsPlace B) (map (λ (pr : Pair). pr.build) pairs)
+right_places P B pairs inside = All-map (IsPlace B) (λ (pr : Pair). pr.build) pairs (All-weaker (IsPair P B) (λ (pr : Pair). IsPlace B pr.build) (λ pr h. h.build_place) pairs inside)
+
+-- the columns of both sides, gathered at the places of pairs
+module _ (P B : List Table) (ps bs : List Field) (pairs : List Pair) (front back : List ℕ) where
+  abbrev lefts : List RowPlace
+  lefts = map (λ (pr : Pair). pr.probe) pairs
+
+  abbrev rights : List RowPlace
+  rights = map (λ (pr : Pair). pr.build) pairs
+
+  abbrev pub both : List Column
+  both = gathered front ps P lefts ++ gathered back bs B rights
+
+  pub long_both : All (λ (c : Column). length c.values ≡ length pairs) both
+  long_both =
+      let Long : ℕ → Column → Type 0 = λ n c. length c.values ≡ n in
+      All-append (Long (length pairs)) (gathered front ps P lefts) (gathered back bs B rights)
+      (subst (λ (n : ℕ). All (Long n) (gathered front ps P lefts)) (length-map pairs (λ (pr : Pair). pr.probe)) (long_gathered front ps P lefts))
+      (subst (λ (n : ℕ). All (Long n) (gathered back bs B rights)) (length-map pairs (λ (pr : Pair). pr.build)) (long_gathered back bs B rights))
+
+  abbrev left : ℕ → Pair → Leaf
+  left c pr = value_at (row_of P pr.probe) c
+
+  abbrev right : ℕ → Pair → Leaf
+  right c pr = value_at (row_of B pr.build) c
+
+  abbrev readers : List (Pair → Leaf)
+  readers = map left (range_with_len 0 (length ps)) ++ map right (range_with_len 0 (length bs))
+
+  -- one side's values, pair by pair
+  values_side : (frames : List Table) (side : Pair → RowPlace) (prefix : List ℕ) (schema : List Field)
+      → values_of (gathered prefix schema frames (map side pairs)) ≡ map (λ (f : Pair → Leaf). map f pairs) (map (λ c pr. value_at (row_of frames (side pr)) c) (range_with_len 0 (length schema)))
+  values_side frames side prefix schema =
+      map-map (λ (c : Column). c.values) (gathered_column prefix schema frames (map side pairs)) (range_with_len 0 (length schema))
+      ∙ map_agree (placed_values frames (map side pairs)) (λ c. map (λ pr. value_at (row_of frames (side pr)) c) pairs) (λ c. map-map (λ place. value_at (row_of frames place) c) side pairs) (range_with_len 0 (length schema))
+      ∙ sym (map-map (λ (f : Pair → Leaf). map f pairs) (λ c pr. value_at (row_of frames (side pr)) c) (range_with_len 0 (length schema)))
+
+  values_both : values_of both ≡ map (λ (f : Pair → Leaf). map f pairs) readers
+  values_both =
+      let l = values_side P (λ (pr : Pair). pr.probe) front ps in
+      let r = values_side B (λ (pr : Pair). pr.build) back bs in
+      map-append (λ (c : Column). c.values) (gathered front ps P lefts) (gathered back bs B rights)
+      ∙ rw (l, r) (sym (map-append (λ (f : Pair → Leaf). map f pairs) (map left (range_with_len 0 (length ps))) (map right (range_with_len 0 (length bs)))))
+
+  -- the joined columns are the pairs' rows
+  pub rows_both : AllHave ps P → AllHave bs B → All (IsPair P B) pairs → rows_from (length pairs) (values_of both) ≡ map (pair_row P B) pairs
+  rows_both have_p have_b inside = ap (rows_from (length pairs)) values_both ∙ transposed (λ (f : Pair → Leaf) (pr : Pair). f pr) readers pairs ∙ map_agree_on (λ pr. map (λ (f : Pair → Leaf). f pr) readers) (pair_row P B) pairs each
+    where
+      each : (k : ℕ) (d : Pair) → k < length pairs → map (λ (f : Pair → Leaf). f (get_or pairs k d)) readers ≡ pair_row P B (get_or pairs k d)
+      each k d l =
+          let pr = get_or pairs k d in
+          let is = All-get_or (IsPair P B) pairs k d l inside in
+          map-append (λ (f : Pair → Leaf). f pr) (map left (range_with_len 0 (length ps))) (map right (range_with_len 0 (length bs)))
+          ∙ ap (λ (xs : List Leaf). xs ++ map (λ (f : Pair → Leaf). f pr) (map right (range_with_len 0 (length bs)))) (map-map (λ (f : Pair → Leaf). f pr) left (range_with_len 0 (length ps)) ∙ row_whole (row_of P pr.probe) (length ps) (wide_at ps P pr.probe have_p is.probe_place))
+          ∙ ap (λ (xs : List Leaf). row_of P pr.probe ++ xs) (map-map (λ (f : Pair → Leaf). f pr) right (range_with_len 0 (length bs)) ∙ row_whole (row_of B pr.build) (length bs) (wide_at bs B pr.build have_b is.build_place))
+
+  -- the headers of both sides
+  pub headers_both : map header both ≡ prefixed front ps ++ prefixed back bs
+  headers_both = map-append header (gathered front ps P lefts) (gathered back bs B rights)
+      ∙ ap (λ (fs : List Field). fs ++ map header (gathered back bs B rights)) (headers_gathered front ps P lefts)
+      ∙ ap (λ (fs : List Field). prefixed front ps ++ fs) (headers_gathered back bs B rights)
+
+  -- columns appended side by side are those of both sides
+  pub both_appended : (ls rs : List RowPlace) (new first all : List Column) → ls ≡ lefts → rs ≡ rights → new ≡ [] → first ≡ new ++ gathered front ps P ls → all ≡ first ++ gathered back bs B rs → all ≡ both
+  both_appended ls rs new first all l r n f a =
+      a ∙ ap (λ (cs : List Column). cs ++ gathered back bs B rs) (f ∙ ap (λ (cs : List Column). cs ++ gathered front ps P ls) n)
+      ∙ rw (l, r) refl

@@ -1,0 +1,9 @@
+pub mod Placed
+pub mod Matched
+pub mod Gathered
+pub mod Grouped
+pub mod Columns
+pub mod GroupRows
+pub mod Thinness
+pub mod JoinedRows
+pub mod Refused

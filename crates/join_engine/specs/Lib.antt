@@ -1,0 +1,10 @@
+pub use Rattle.join_model.specs.Keys
+pub use Rattle.join_model.specs.Joined
+pub use Rattle.join_model.specs.Filtered
+pub use Rattle.join_model.specs.Groups
+pub use Rattle.join_model.specs.Answers
+pub use Rattle.join_model.specs.Refusals
+pub mod Thin
+pub mod Places
+pub mod Pairs
+pub mod Totals

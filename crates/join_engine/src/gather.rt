@@ -1,0 +1,81 @@
+//! Rows of frames gathered by their places, column by column.
+ghost use Rattle.std.specs.Prelude.{◌≡◌, ◌<◌, ◌++◌, length, IfOk, OnOk, map};
+ghost use Rattle.std.specs.List.{All};
+ghost use Rattle.col_core.specs.Tables.{IsBuildable, header, rows_from, values_of};
+ghost use Rattle.join_engine.specs.Places.{IsPlace, AllHave, gathered, gathered_column};
+
+use crate::places::RowPlace;
+use col_core::{ColumnBuilder, Field, Frame, Name, Schema, Series};
+use std::alloc::{AllocError, Global};
+
+/// A column of the rows at places, its name after a prefix.
+fn gather_column(
+    alloc: Global,
+    prefix: &str,
+    schema: &Schema,
+    frames: &[Frame],
+    places: &[RowPlace],
+    c: usize,
+) -> Result<Series, AllocError>
+    requires have { AllHave schema.now frames.now }
+    requires places { All (IsPlace frames.now) places.now }
+    requires column { c < length schema.now }
+    requires built { All (λ f. IsBuildable f.dtype) schema.now }
+    ensures { IfOk result (λ s. s ≡ gathered_column prefix.now schema.now frames.now places.now c) }
+{
+    let field = schema.field(c);
+    let mut built = ColumnBuilder::new(alloc, field.dtype);
+    for place in places {
+        let frame = &frames[place.frame as usize];
+        let _height = frame.height();
+        built.push_from(frame.column(c), place.row as usize)?;
+    }
+    built.finish(alloc, Name::joined(alloc, prefix, field.name.as_str())?)
+}
+
+/// Appends all columns of the rows at places, their names after a prefix.
+pub fn gather(
+    alloc: Global,
+    prefix: &str,
+    schema: &Schema,
+    frames: &[Frame],
+    places: &[RowPlace],
+    columns: &mut Vec<Series>,
+) -> Result<(), AllocError>
+    requires have { AllHave schema.now frames.now }
+    requires places { All (IsPlace frames.now) places.now }
+    requires built { All (λ f. IsBuildable f.dtype) schema.now }
+    ensures { OnOk result (columns.new.items ≡ columns.old.items ++ gathered prefix.now schema.now frames.now places.now) }
+{
+    for c in 0..schema.len() {
+        columns.push(gather_column(alloc, prefix, schema, frames, places, c)?)?;
+    }
+    Ok(())
+}
+
+/// The schema of columns: their names and types.
+fn schema_of_columns(alloc: Global, columns: &[Series]) -> Result<Schema, AllocError>
+    ensures { IfOk result (λ s. s ≡ map header columns.now) }
+{
+    let mut fields = Vec::new(alloc);
+    for column in columns {
+        fields.push(Field {
+            name: Name::new(alloc, column.name().as_str())?,
+            dtype: column.dtype(),
+        })?;
+    }
+    Ok(Schema::from_fields(fields))
+}
+
+/// The frame of columns of one height, under their own names and types.
+pub fn frame_of_columns(
+    alloc: Global,
+    columns: Vec<Series>,
+    height: usize,
+) -> Result<Frame, AllocError>
+    requires { All (λ c. length c.values ≡ height) columns.items }
+    ensures { IfOk result (λ f. f ≡ record { schema = map header columns.items; rows = rows_from height (values_of columns.items) }) }
+{
+    let schema = schema_of_columns(alloc, &columns)?;
+    Ok(Frame::from_columns(schema, columns, height))
+}

@@ -1,0 +1,140 @@
+//! The groups of joined rows, as a frame.
+ghost use Rattle.std.specs.Prelude.{◌≡◌, ◌<◌, ◌∷◌, [], true, is_some, length, map, codes, IfOk, ◌++◌};
+ghost use Rattle.std.specs.List.{All};
+ghost use Rattle.col_core.specs.declared.data_type.DataType.TheVariants.{Int64};
+ghost use Rattle.col_core.specs.declared.leaf.Leaf.TheVariants.{Whole};
+ghost use Rattle.col_core.specs.Values.{Fits, value_at};
+ghost use Rattle.col_core.specs.Tables.{IsBuildable};
+ghost use Rattle.col_core.specs.Schemas.{type_named};
+ghost use Rattle.join_model.specs.Filtered.{schema_of, ref_value};
+ghost use Rattle.join_model.specs.Groups.{ref_type, group_rows};
+ghost use Rattle.join_model.specs.Answers.{joined_schema, group_schema, ref_name, kind_prefix};
+ghost use Rattle.join_engine.specs.Thin.{is_thin_group, are_thin_reductions};
+ghost use Rattle.join_engine.specs.Totals.{totals_table};
+
+use crate::gather::frame_of_columns;
+use crate::totals::{Totals, entries, group_totals};
+use col_core::{ColumnBuilder, DataType, Frame, Leaf, List, Name, Series};
+use join_model::{ColumnRef, Query, Reduction, ReductionKind, Side};
+use std::alloc::{AllocError, Global};
+
+#[tactic(auto, using(crate::proofs::Columns::built_found))]
+/// The column of joined rows that a reference names. Its side has such a column.
+fn joined_column<'a>(query: &Query, rows: &'a Frame, column: &ColumnRef) -> &'a Series
+    requires joined { rows.now.schema ≡ joined_schema query.now }
+    requires known { is_some (type_named column.now.name (schema_of query.now column.now.side)) ≡ true }
+    requires built { All (λ f. IsBuildable f.dtype) rows.now.schema }
+    ensures values { result.now.values ≡ map (ref_value query.now column.now) rows.now.rows }
+    ensures dtype { result.now.dtype ≡ ref_type query.now column.now }
+    ensures built { IsBuildable result.now.dtype }
+{
+    let name = column.name.as_str();
+    let place = match column.side {
+        Side::Probe => query.probe_schema.position(name).unwrap(),
+        Side::Build => {
+            let _width = rows.schema().len();
+            query.probe_schema.len() + query.build_schema.position(name).unwrap()
+        }
+    };
+    rows.column(place)
+}
+
+// A column's name in the answer.
+fn column_name(alloc: Global, column: &ColumnRef) -> Result<Name, AllocError>
+    ensures { IfOk result (λ n. n ≡ ref_name column.now) }
+{
+    match column.side {
+        Side::Probe => Name::joined(alloc, "probe.", column.name.as_str()),
+        Side::Build => Name::joined(alloc, "build.", column.name.as_str()),
+    }
+}
+
+fn kind_text(kind: ReductionKind) -> &'static str
+    ensures { result.now ≡ kind_prefix kind }
+{
+    match kind {
+        ReductionKind::Sum => "sum(",
+        ReductionKind::Min => "min(",
+        ReductionKind::Max => "max(",
+        ReductionKind::First => "first(",
+        ReductionKind::Last => "last(",
+    }
+}
+
+// A reduction's name in the answer.
+fn reduction_name(alloc: Global, reduction: &Reduction) -> Result<Name, AllocError>
+    ensures { IfOk result (λ n. n ≡ kind_prefix reduction.now.kind ++ ref_name reduction.now.column ++ codes ")") }
+{
+    let column = column_name(alloc, &reduction.column)?;
+    let opened = Name::joined(alloc, kind_text(reduction.kind), column.as_str())?;
+    Name::joined(alloc, opened.as_str(), ")")
+}
+
+// The first values of tuples, as a column.
+fn key_column(
+    alloc: Global,
+    keys: &[List<Leaf>],
+    name: Name,
+    dtype: DataType,
+) -> Result<Series, AllocError>
+    requires built { IsBuildable dtype }
+    requires single { All (λ k. length k ≡ 1) keys.now }
+    requires fits { All (λ k. Fits dtype (value_at k 0)) keys.now }
+    ensures { IfOk result (λ s. s ≡ record { name = name; dtype = dtype; values = map (λ k. value_at k 0) keys.now }) }
+{
+    let mut built = ColumnBuilder::new(alloc, dtype);
+    for k in keys {
+        built.push_leaf(&k.as_slice()[0])?;
+    }
+    built.finish(alloc, name)
+}
+
+// Totals, as a column.
+fn total_column(alloc: Global, totals: &[i64], name: Name) -> Result<Series, AllocError>
+    ensures { IfOk result (λ s. s ≡ record { name = name; dtype = Int64; values = map Whole totals.now }) }
+{
+    let mut built = ColumnBuilder::new(alloc, DataType::Int64);
+    for z in totals {
+        built.push_leaf(&Leaf::Whole(*z as i128))?;
+    }
+    built.finish(alloc, name)
+}
+
+// Keys of one value and their totals, as two columns.
+fn totals_frame(
+    alloc: Global,
+    totals: &Totals,
+    key: Name,
+    dtype: DataType,
+    sum: Name,
+) -> Result<Frame, AllocError>
+    requires built { IsBuildable dtype }
+    requires same { length totals.now.keys.items ≡ length totals.now.totals.items }
+    requires single { All (λ k. length k ≡ 1) totals.now.keys.items }
+    requires fits { All (λ k. Fits dtype (value_at k 0)) totals.now.keys.items }
+    ensures { IfOk result (λ f. f ≡ totals_table (record { name = key; dtype = dtype }) sum totals.now.keys.items totals.now.totals.items) }
+{
+    let mut columns = Vec::new(alloc);
+    columns.push(key_column(alloc, &totals.keys, key, dtype)?)?;
+    columns.push(total_column(alloc, &totals.totals, sum)?)?;
+    frame_of_columns(alloc, columns, totals.keys.len())
+}
+
+/// One row per group of joined rows, by first appearance, for a query with one group key and one sum of an `Int64` column.
+pub fn group_frame(alloc: Global, query: &Query, rows: &Frame) -> Result<Frame, AllocError>
+    requires joined { rows.now.schema ≡ joined_schema query.now }
+    requires built { All (λ f. IsBuildable f.dtype) rows.now.schema }
+    requires group { is_thin_group query.now query.now.group_keys ≡ true }
+    requires reductions { are_thin_reductions query.now query.now.reductions ≡ true }
+    ensures { IfOk result (λ f. f ≡ record { schema = group_schema query.now; rows = group_rows query.now rows.now.rows }) }
+{
+    let group = &query.group_keys.as_slice()[0];
+    let reduction = &query.reductions.as_slice()[0];
+    let keys = joined_column(query, rows, group);
+    let values = joined_column(query, rows, &reduction.column);
+    let entries = entries(alloc, keys, values)?;
+    let totals = group_totals(alloc, &entries)?;
+    let key = column_name(alloc, group)?;
+    let sum = reduction_name(alloc, reduction)?;
+    totals_frame(alloc, &totals, key, keys.dtype(), sum)
+}

@@ -1,0 +1,223 @@
+//! The pairs of rows that join.
+ghost use Rattle.std.specs.Prelude.{◌⊎◌, true, false, ◌≡◌, ◌<◌, ◌≤◌, ◌^◌, [], ◌∷◌, ◌++◌, length, IfOk, IfErr, OnOk, map, codes};
+ghost use Rattle.join_model.specs.Joined.{rows_of, joined_rows};
+ghost use Rattle.join_model.specs.Refusals.{is_too_large, lists_too_many};
+ghost use Rattle.join_engine.specs.Pairs.{pairs_of, matched, ProbeFails, keyed_at, pair_row, IsPair, IsKeyedSide};
+ghost use Rattle.join_engine.specs.Thin.{IsThin, is_thin_key};
+ghost use Rattle.join_engine.specs.Places.{IsPlace, AllHave};
+ghost use Rattle.join_model.specs.Answers.{joined_schema};
+ghost use Rattle.col_core.specs.Tables.{IsBuildable};
+ghost use Rattle.std.specs.List.{All};
+
+use crate::gather::{frame_of_columns, gather};
+use crate::keys::{is_null_leaf, same_leaf};
+use crate::places::{RowPlace, places, value_of};
+use crate::thin::key_place;
+use col_core::{Frame, Leaf, Name, Schema};
+use join_model::Query;
+use std::alloc::{AllocError, AllocFailed, Global};
+
+/// A row's key and place.
+#[derive(Debug, Drop)]
+pub struct Keyed {
+    pub key: Leaf,
+    pub place: RowPlace,
+}
+
+/// A probe row and a build row.
+#[derive(Clone, Copy, PartialEq, Eq, Debug)]
+pub struct Pair {
+    pub probe: RowPlace,
+    pub build: RowPlace,
+}
+
+/// Why pairs are refused.
+#[derive(Clone, Copy, PartialEq, Eq, Debug)]
+pub enum ProbeError {
+    TooLarge,
+    Memory,
+}
+
+impl From<AllocError> for ProbeError {
+    ghost use Rattle.std.specs.Prelude.{◌≡◌};
+    ghost use Rattle.join_engine.specs.declared.pairs.ProbeError.TheVariants.{Memory};
+
+    ghost from_gives = { λ _ e. e ≡ Memory };
+
+    fn from(_e: AllocError) -> ProbeError {
+        ProbeError::Memory
+    }
+}
+
+impl<T: Drop> From<AllocFailed<T>> for ProbeError {
+    ghost use Rattle.std.specs.Prelude.{◌≡◌};
+    ghost use Rattle.join_engine.specs.declared.pairs.ProbeError.TheVariants.{Memory};
+
+    ghost from_gives = { λ _ e. e ≡ Memory };
+
+    fn from(_e: AllocFailed<T>) -> ProbeError {
+        ProbeError::Memory
+    }
+}
+
+/// Appends the pairs of one probe row.
+fn match_one(
+    out: &mut Vec<Pair>,
+    probe: &Keyed,
+    build: &[Keyed],
+    most: u64,
+) -> Result<(), ProbeError>
+    ensures ok { OnOk result (out.new.items ≡ out.old.items ++ pairs_of build.now probe.now) }
+    ensures fails { IfErr result (ProbeFails most (out.old.items ++ pairs_of build.now probe.now)) }
+    ensures within { OnOk result (length out.old.items ≤ most → length out.new.items ≤ most) }
+{
+    for b in build {
+        if same_leaf(&probe.key, &b.key) && !is_null_leaf(&probe.key) {
+            if out.len() as u64 >= most {
+                return Err(ProbeError::TooLarge);
+            }
+            out.push(Pair {
+                probe: probe.place,
+                build: b.place,
+            })?;
+        }
+    }
+    Ok(())
+}
+
+/// The pairs that join, in the order of the probe rows, and then of the build rows.
+pub fn matches(
+    alloc: Global,
+    probe: &[Keyed],
+    build: &[Keyed],
+    most: u64,
+) -> Result<Vec<Pair>, ProbeError>
+    ensures ok { IfOk result (λ v. v.items ≡ matched build.now probe.now) }
+    ensures few { IfOk result (λ _. length (matched build.now probe.now) ≤ most) }
+    ensures fails { IfErr result (ProbeFails most (matched build.now probe.now)) }
+{
+    let mut out = Vec::new(alloc);
+    for p in probe {
+        match_one(&mut out, p, build, most)?;
+    }
+    Ok(out)
+}
+
+// The rows at places with their keys, which stand in a column.
+fn rows_with_keys(
+    alloc: Global,
+    frames: &[Frame],
+    schema: &Schema,
+    places: &[RowPlace],
+    c: usize,
+) -> Result<Vec<Keyed>, AllocError>
+    requires have { AllHave schema.now frames.now }
+    requires places { All (IsPlace frames.now) places.now }
+    requires column { c < length schema.now }
+    ensures { IfOk result (λ v. v.items ≡ map (keyed_at frames.now c) places.now) }
+{
+    let mut rows = Vec::new(alloc);
+    for place in places {
+        rows.push(Keyed {
+            key: value_of(alloc, frames, *place, c)?,
+            place: *place,
+        })?;
+    }
+    Ok(rows)
+}
+
+// The rows of a side, each with its key.
+fn keyed_side(
+    alloc: Global,
+    schema: &Schema,
+    names: &[Name],
+    frames: &[Frame],
+) -> Result<Vec<Keyed>, AllocError>
+    requires have { AllHave schema.now frames.now }
+    requires key { is_thin_key schema.now names.now ≡ true }
+    requires few { is_too_large frames.now ≡ false }
+    ensures { IfOk result (λ v. IsKeyedSide schema.now names.now frames.now v.items) }
+{
+    let places = places(alloc, frames)?;
+    let c = key_place(schema, names);
+    Ok(rows_with_keys(alloc, frames, schema, &places, c)?)
+}
+
+/// The pairs of a thin query: for each probe row in turn, the build rows that it joins, in build order.
+pub fn joined_pairs(
+    alloc: Global,
+    query: &Query,
+    build: &[Frame],
+    probe: &[Frame],
+) -> Result<Vec<Pair>, ProbeError>
+    requires thin { IsThin query.now build.now probe.now }
+    requires few_build { is_too_large build.now ≡ false }
+    requires few_probe { is_too_large probe.now ≡ false }
+    ensures rows { IfOk result (λ v. map (pair_row probe.now build.now) v.items ≡ joined_rows query.now (rows_of build.now) (rows_of probe.now)) }
+    ensures inside { IfOk result (λ v. All (IsPair probe.now build.now) v.items) }
+    ensures few { IfOk result (λ v. lists_too_many query.now build.now probe.now ≡ false) }
+    ensures refused { IfErr result (λ e. (e ≡ ProbeError.Memory) ⊎ (lists_too_many query.now build.now probe.now ≡ true)) }
+{
+    let b = keyed_side(
+        alloc,
+        &query.build_schema,
+        query.build_keys.as_slice(),
+        build,
+    )?;
+    let p = keyed_side(
+        alloc,
+        &query.probe_schema,
+        query.probe_keys.as_slice(),
+        probe,
+    )?;
+    matches(alloc, &p, &b, query.plan.rows)
+}
+
+fn probe_places(alloc: Global, pairs: &[Pair]) -> Result<Vec<RowPlace>, AllocError>
+    ensures { IfOk result (λ v. v.items ≡ map (λ p. p.probe) pairs.now) }
+{
+    pairs.iter().map(|p| p.probe).collect(alloc)
+}
+
+fn build_places(alloc: Global, pairs: &[Pair]) -> Result<Vec<RowPlace>, AllocError>
+    ensures { IfOk result (λ v. v.items ≡ map (λ p. p.build) pairs.now) }
+{
+    pairs.iter().map(|p| p.build).collect(alloc)
+}
+
+/// The pairs as rows of both sides: the probe columns as `probe.x`, and then the build columns as `build.x`.
+pub fn join_rows(
+    alloc: Global,
+    query: &Query,
+    build: &[Frame],
+    probe: &[Frame],
+    pairs: &[Pair],
+) -> Result<Frame, AllocError>
+    requires build_have { AllHave query.now.build_schema build.now }
+    requires probe_have { AllHave query.now.probe_schema probe.now }
+    requires build_built { All (λ f. IsBuildable f.dtype) query.now.build_schema }
+    requires probe_built { All (λ f. IsBuildable f.dtype) query.now.probe_schema }
+    requires pairs { All (IsPair probe.now build.now) pairs.now }
+    ensures { IfOk result (λ f. f ≡ record { schema = joined_schema query.now; rows = map (pair_row probe.now build.now) pairs.now }) }
+{
+    let left = probe_places(alloc, pairs)?;
+    let right = build_places(alloc, pairs)?;
+    let mut columns = Vec::new(alloc);
+    gather(
+        alloc,
+        "probe.",
+        &query.probe_schema,
+        probe,
+        &left,
+        &mut columns,
+    )?;
+    gather(
+        alloc,
+        "build.",
+        &query.build_schema,
+        build,
+        &right,
+        &mut columns,
+    )?;
+    frame_of_columns(alloc, columns, pairs.len())
+}

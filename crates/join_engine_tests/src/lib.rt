@@ -1,0 +1,7 @@
+//! Tests of `join_engine`: its public call on small frames, compared with answers that are known from outside.
+#![tactic(auto)]
+
+#[cfg(test)]
+mod fixtures;
+#[cfg(test)]
+mod tests;
