@@ -1,0 +1,5 @@
+mod Bytes
+mod Pairs
+mod Fields
+mod Widths
+mod Columns

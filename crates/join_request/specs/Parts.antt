@@ -1,0 +1,73 @@
+-- The parts of a request: its sides, the join, the group keys and the reductions.
+use Rattle.std.specs.Prelude.{ℕ, List, [], ◌∷◌, drop, length, if◌then◌else◌, nat_eq, bytes_eq, codes, Option, Some, None}
+use Rattle.std.specs.List.{starts_with}
+use Rattle.serde_json.specs.Data.{Data}
+use Rattle.serde_json.specs.Find.{get, as_str}
+use Rattle.reduce_model.specs.declared.kind.ReductionKind.{ReductionKind}
+use Rattle.reduce_model.specs.declared.kind.ReductionKind.TheVariants as kinds
+use Rattle.join_model.specs.declared.query.Side.{Side}
+use Rattle.join_model.specs.declared.query.Side.TheVariants.{Build, Probe}
+use Rattle.join_model.specs.declared.query.ColumnRef.{ColumnRef}
+use Rattle.join_model.specs.declared.query.Reduction.{Reduction}
+use Rattle.join_request.specs.Json.{◌>>=◌, object_of, list_of, pair_of}
+use Rattle.join_request.specs.Schemas.{schema_of_value}
+use Rattle.join_request.specs.Frames.{frames_of_value}
+use Rattle.join_request.specs.declared.parts.RequestSide.{RequestSide}
+use Rattle.join_request.specs.declared.parts.JoinKeys.{JoinKeys}
+
+-- a side: an object with a schema, and the frames that stand under it
+abbrev pub side_of_value : Data → Option RequestSide
+side_of_value d = do
+  side ← object_of (codes "schema" ∷ codes "frames" ∷ []) d
+  schema ← get (codes "schema") side >>= schema_of_value
+  frames ← get (codes "frames") side >>= frames_of_value schema
+  Some (record { schema = schema; frames = frames })
+
+-- the names of a key's columns
+abbrev pub names_of_value : Data → Option (List (List ℕ))
+names_of_value d = list_of as_str d
+
+-- the join: an object with the names of the key columns of each side
+abbrev pub join_of_value : Data → Option JoinKeys
+join_of_value d = do
+  join ← object_of (codes "build" ∷ codes "probe" ∷ []) d
+  build ← get (codes "build") join >>= names_of_value
+  probe ← get (codes "probe") join >>= names_of_value
+  Some (record { build = build; probe = probe })
+
+-- the column of a side whose name follows the text that stands in front
+abbrev pub column_after : List ℕ → Side → List ℕ → ColumnRef
+column_after front side text = record { side = side; name = drop (length front) text }
+
+-- a column: a text that begins with its side and a dot; all that follows is its name
+abbrev pub column_of_text : List ℕ → Option ColumnRef
+column_of_text text =
+    if starts_with nat_eq text (codes "build.") then Some (column_after (codes "build.") Build text) else
+    (if starts_with nat_eq text (codes "probe.") then Some (column_after (codes "probe.") Probe text) else None)
+
+abbrev pub column_of_value : Data → Option ColumnRef
+column_of_value d = as_str d >>= column_of_text
+
+-- the group keys
+abbrev pub columns_of_value : Data → Option (List ColumnRef)
+columns_of_value d = list_of column_of_value d
+
+-- the reduction that a word names
+abbrev pub kind_of_text : List ℕ → Option ReductionKind
+kind_of_text text =
+    if bytes_eq text (codes "sum") then Some kinds.Sum else
+    (if bytes_eq text (codes "min") then Some kinds.Min else
+    (if bytes_eq text (codes "max") then Some kinds.Max else
+    (if bytes_eq text (codes "first") then Some kinds.First else
+    (if bytes_eq text (codes "last") then Some kinds.Last else None))))
+
+-- a reduction: a pair of its kind and its column
+abbrev pub reduction_of_value : Data → Option Reduction
+reduction_of_value d = do
+  pair ← pair_of d
+  kind ← as_str pair.0 >>= kind_of_text
+  column ← column_of_value pair.1
+  Some (record { kind = kind; column = column })
+
+abbrev pub reductions_of_value : Data → Option (List Reduction)
+reductions_of_value d = list_of reduction_of_value d

@@ -1,0 +1,42 @@
+//! Why bytes are no request.
+use std::alloc::{AllocError, AllocFailed};
+use thiserror::Error;
+
+/// Why bytes are no request. `request_of` says which cause comes first; want of memory may come in place of any answer.
+#[derive(Clone, Copy, PartialEq, Eq, Debug, Error)]
+pub enum RequestError {
+    /// The bytes are not UTF-8, or not the text of one JSON value of at most 127 levels.
+    #[error("not JSON")]
+    NotJson,
+    /// A number is held as a float: one with a fraction, an exponent or a magnitude past 64 bits, or `-0`.
+    #[error("float in request")]
+    Float,
+    /// There was no memory for the request.
+    #[error("out of memory")]
+    Memory,
+    /// The value is no request of the kind that is read: an inner join without a filter, over `Int64` and `String` columns.
+    #[error("request not built")]
+    NotBuilt,
+}
+
+impl From<AllocError> for RequestError {
+    ghost use Rattle.std.specs.Prelude.{◌≡◌};
+    ghost use Rattle.join_request.specs.declared.error.RequestError.TheVariants.{Memory};
+
+    ghost from_gives = { λ _ e. e ≡ Memory };
+
+    fn from(_e: AllocError) -> RequestError {
+        RequestError::Memory
+    }
+}
+
+impl<T: Drop> From<AllocFailed<T>> for RequestError {
+    ghost use Rattle.std.specs.Prelude.{◌≡◌};
+    ghost use Rattle.join_request.specs.declared.error.RequestError.TheVariants.{Memory};
+
+    ghost from_gives = { λ _ e. e ≡ Memory };
+
+    fn from(_failed: AllocFailed<T>) -> RequestError {
+        RequestError::Memory
+    }
+}

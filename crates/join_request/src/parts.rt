@@ -1,0 +1,134 @@
+//! The parts of a request: its sides, the join, the group keys and the reductions.
+ghost use Rattle.std.specs.Prelude.{◌≡◌, IfOk, IfErr, Some};
+ghost use Rattle.serde_json.specs.View.{view};
+ghost use Rattle.join_request.specs.Parts.{side_of_value, names_of_value, join_of_value, column_of_text, columns_of_value, kind_of_text, reductions_of_value};
+ghost use Rattle.join_request.specs.Refused.{Refuses};
+
+use crate::error::RequestError;
+use crate::frames::read_frames;
+use crate::schemas::read_schema;
+use crate::values::{FromValue, member, object_named, read_list, read_pair, read_text};
+use col_core::{Frame, List, Name, Schema};
+use join_model::{ColumnRef, Reduction, ReductionKind, Side};
+use serde_json::Value;
+use std::alloc::Global;
+
+/// A side of a request: its schema, and its frames under that schema.
+#[derive(Debug, Drop)]
+pub struct RequestSide {
+    pub schema: Schema,
+    pub frames: List<Frame>,
+}
+
+/// The names of the key columns of each side.
+#[derive(Debug, Drop)]
+pub struct JoinKeys {
+    pub build: List<Name>,
+    pub probe: List<Name>,
+}
+
+/// The side that a value is.
+pub fn read_side(alloc: Global, value: &Value) -> Result<RequestSide, RequestError>
+    ensures ok { IfOk result (λ side. side_of_value (view value.now) ≡ Some side) }
+    ensures err { IfErr result (Refuses (side_of_value (view value.now))) }
+{
+    let side = object_named(value, &["schema", "frames"])?;
+    let schema = read_schema(alloc, member(side, "schema")?)?;
+    let frames = read_frames(alloc, &schema, member(side, "frames")?)?;
+    Ok(RequestSide { schema, frames })
+}
+
+/// The join that a value is.
+pub fn read_join(alloc: Global, value: &Value) -> Result<JoinKeys, RequestError>
+    ensures ok { IfOk result (λ keys. join_of_value (view value.now) ≡ Some keys) }
+    ensures err { IfErr result (Refuses (join_of_value (view value.now))) }
+{
+    let join = object_named(value, &["build", "probe"])?;
+    Ok(JoinKeys {
+        build: read_list(alloc, member(join, "build")?)?,
+        probe: read_list(alloc, member(join, "probe")?)?,
+    })
+}
+
+/// The group keys that a value is.
+pub fn read_columns(alloc: Global, value: &Value) -> Result<List<ColumnRef>, RequestError>
+    ensures ok { IfOk result (λ columns. columns_of_value (view value.now) ≡ Some columns) }
+    ensures err { IfErr result (Refuses (columns_of_value (view value.now))) }
+{
+    read_list(alloc, value)
+}
+
+/// The reductions that a value is.
+pub fn read_reductions(alloc: Global, value: &Value) -> Result<List<Reduction>, RequestError>
+    ensures ok { IfOk result (λ reductions. reductions_of_value (view value.now) ≡ Some reductions) }
+    ensures err { IfErr result (Refuses (reductions_of_value (view value.now))) }
+{
+    read_list(alloc, value)
+}
+
+impl FromValue for Name {
+    ghost use Rattle.serde_json.specs.Find.{as_str};
+
+    ghost from_value = { as_str };
+
+    fn from_value(alloc: Global, value: &Value) -> Result<Name, RequestError> {
+        Ok(Name::new(alloc, read_text(value)?)?)
+    }
+}
+
+impl FromValue for ColumnRef {
+    ghost use Rattle.join_request.specs.Parts.{column_of_value};
+
+    ghost from_value = { column_of_value };
+
+    fn from_value(alloc: Global, value: &Value) -> Result<ColumnRef, RequestError> {
+        read_column(alloc, read_text(value)?)
+    }
+}
+
+/// The column that a text names, with its side and a dot in front.
+fn read_column(alloc: Global, text: &str) -> Result<ColumnRef, RequestError>
+    ensures ok { IfOk result (λ column. column_of_text text.now ≡ Some column) }
+    ensures err { IfErr result (Refuses (column_of_text text.now)) }
+{
+    let (side, name) = if let Some(name) = text.strip_prefix("build.") {
+        (Side::Build, name)
+    } else if let Some(name) = text.strip_prefix("probe.") {
+        (Side::Probe, name)
+    } else {
+        return Err(RequestError::NotBuilt);
+    };
+    Ok(ColumnRef {
+        side,
+        name: Name::new(alloc, name)?,
+    })
+}
+
+impl FromValue for Reduction {
+    ghost use Rattle.join_request.specs.Parts.{reduction_of_value};
+
+    ghost from_value = { reduction_of_value };
+
+    fn from_value(alloc: Global, value: &Value) -> Result<Reduction, RequestError> {
+        let (kind, column) = read_pair(value)?;
+        Ok(Reduction {
+            kind: kind_named(read_text(kind)?)?,
+            column: ColumnRef::from_value(alloc, column)?,
+        })
+    }
+}
+
+/// The reduction that a word names.
+fn kind_named(text: &str) -> Result<ReductionKind, RequestError>
+    ensures ok { IfOk result (λ kind. kind_of_text text.now ≡ Some kind) }
+    ensures err { IfErr result (Refuses (kind_of_text text.now)) }
+{
+    match text {
+        "sum" => Ok(ReductionKind::Sum),
+        "min" => Ok(ReductionKind::Min),
+        "max" => Ok(ReductionKind::Max),
+        "first" => Ok(ReductionKind::First),
+        "last" => Ok(ReductionKind::Last),
+        _ => Err(RequestError::NotBuilt),
+    }
+}
