@@ -1,0 +1,8 @@
+-- The text of an answer.
+use Rattle.std.specs.Prelude.{ℕ, List, ◌++◌, codes}
+use Rattle.col_core.specs.Tables.{Table}
+use Rattle.join_text.specs.Records.{table_records, records_text}
+
+-- the text of the joined rows and their groups: the records of the first table, marked J, and then those of the second, marked G
+abbrev pub answer_text_of : Table → Table → List ℕ
+answer_text_of rows groups = records_text (table_records (codes "J") rows ++ table_records (codes "G") groups)
