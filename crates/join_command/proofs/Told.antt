@@ -1,0 +1,86 @@
+-- What follows where a source tells its bytes, and what a write of a line leaves.
+use Rattle.std.proofs.Common.{◌≡◌, ◌<◌, ◌≤◌, ◌⊎◌, ◌^◌, ℕ, ◌++◌, List, length, Option, Some, None, Result, Ok, Err, OnOk, OnErr, IfSome, inl, inr, refl, ap, sym, subst, ◌∙◌, arith, length-append}
+use Rattle.std.proofs.lemmas.List.{append-nil}
+use Rattle.std.proofs.Math.Seq.{take-length}
+use Rattle.std.specs.Io.KnownBytes.{prepend_known, append_known}
+use Rattle.byte_streams.specs.Faults.{Rose}
+use Rattle.byte_streams.specs.Whole.{GrowsByFront}
+use Rattle.byte_streams.specs.declared.whole.WriteFault.{WriteFault as Fault}
+use Rattle.join_request.specs.declared.error.RequestError.TheVariants as requests
+use Rattle.join_engine.specs.declared.engine.QueryError.TheVariants as queries
+use Rattle.join_command.specs.declared.error.ToolError.{ToolError}
+use Rattle.join_command.specs.declared.error.ToolError.TheVariants.{Usage, ReadFault, TooLong, Request, Query, WriteFault, Memory}
+use Rattle.join_command.specs.Errors.{status_of}
+use Rattle.join_command.specs.Replies.{reply_to}
+use Rattle.join_command.specs.Runs.{WasRead, IsAnswered, IsRefused, IsReplied, WritesLine}
+
+-- a write of a line, whole or not
+pub writes_line : (before now : Option (List ℕ)) (faults_before faults_now : ℕ) (line : List ℕ) (r : Result (Unit {0}) Fault)
+    → OnOk r (now ≡ append_known before line) → OnErr r (GrowsByFront before now line) → OnErr r (Rose faults_before faults_now)
+    → WritesLine before now faults_before faults_now line
+writes_line before now faults_before faults_now line (Ok u) whole front cause =
+    record { front = (length line, whole ∙ ap (append_known before) (sym (take-length line))); whole = inr whole }
+writes_line before now faults_before faults_now line (Err e) whole front cause = record { front = front; whole = inl cause }
+
+some_injective : {x y : List ℕ} → Some x ≡ Some y → x ≡ y
+some_injective e = cc
+
+-- what was taken is a front of what was left
+pub taken_within : (bytes taken : List ℕ) (now : Option (List ℕ)) → Some bytes ≡ prepend_known taken now → length taken ≤ length bytes
+taken_within bytes taken None e = absurd (cc)
+taken_within bytes taken (Some rest) e = omega (arith, ap length (some_injective e), length-append taken rest)
+
+-- a request that was read is all that was left
+pub read_is_left : (bytes read : List ℕ) (now : Option (List ℕ)) → WasRead (Some bytes) now read → read ≡ bytes
+read_is_left bytes read None was = absurd (cc)
+read_is_left bytes read (Some rest) was = sym (some_injective was.taken ∙ (ap (λ xs. read ++ xs) was.ended ∙ append-nil read))
+
+-- an answer is the reply to what was left
+pub answered_replied : (bytes text : List ℕ) (now : Option (List ℕ)) → IsAnswered (Some bytes) now text → reply_to bytes ≡ Ok text
+answered_replied bytes text now a = sym (ap reply_to (read_is_left bytes a.0 now a.1)) ∙ a.2
+
+-- a refusal is the reply to what was left
+pub refused_replied : (bytes : List ℕ) (e : ToolError) (now : Option (List ℕ)) → IsRefused (Some bytes) now e → reply_to bytes ≡ Err e
+refused_replied bytes e now r = sym (ap reply_to (read_is_left bytes r.0 now r.1)) ∙ r.2
+
+-- so the status is that of the refusal
+refused_status : (bytes : List ℕ) (e : ToolError) (now : Option (List ℕ)) → IsRefused (Some bytes) now e → IsReplied (reply_to bytes) (status_of e)
+refused_status bytes e now r = subst (λ (reply : Result (List ℕ) ToolError). IsReplied reply (status_of e)) (sym (refused_replied bytes e now r)) refl
+
+-- what a run that ends with an error says of it
+pub record Says (e : ToolError) (words : ℕ) (before now : Option (List ℕ)) (faults_before faults_now : ℕ) : Type 0 where
+  pub usage : status_of e ≡ 2 → 0 < words
+  pub read_fault : status_of e ≡ 3 → Rose faults_before faults_now
+  pub too_long : (taken : List ℕ) × (before ≡ prepend_known taken now) × (status_of e ≡ 4 → 2 ^ 28 < length taken)
+  pub refused : 5 ≤ status_of e → status_of e ≤ 6 → IsRefused before now e
+  pub front : status_of e ≡ 7 → (text : List ℕ) × IsAnswered before now text
+
+-- where words, faults and length do not explain an error, the reply does, or want of memory
+explained : (e : ToolError) (words : ℕ) (bytes : List ℕ) (now : Option (List ℕ)) (faults_before faults_now : ℕ)
+    → Says e words (Some bytes) now faults_before faults_now → words ≡ 0 → length bytes ≤ 2 ^ 28 → ¬ Rose faults_before faults_now
+    → (status_of e ≡ 8) ⊎ IsReplied (reply_to bytes) (status_of e)
+explained Usage words bytes now f f' says none short sound = let some = says.usage refl in absurd (omega arith)
+explained ReadFault words bytes now f f' says none short sound = absurd (sound (says.read_fault refl))
+explained TooLong words bytes now f f' says none short sound =
+    let taken = says.too_long in
+    let long = taken.2 refl in
+    let within = taken_within bytes taken.0 now taken.1 in
+    absurd (omega arith)
+explained (Request requests.Memory) words bytes now f f' says none short sound = inl refl
+explained (Request requests.NotJson) words bytes now f f' says none short sound = inr (refused_status bytes (Request requests.NotJson) now (says.refused (omega arith) (omega arith)))
+explained (Request requests.Float) words bytes now f f' says none short sound = inr (refused_status bytes (Request requests.Float) now (says.refused (omega arith) (omega arith)))
+explained (Request requests.NotBuilt) words bytes now f f' says none short sound = inr (refused_status bytes (Request requests.NotBuilt) now (says.refused (omega arith) (omega arith)))
+explained (Query queries.Memory) words bytes now f f' says none short sound = inl refl
+explained (Query queries.TooLarge) words bytes now f f' says none short sound = inr (refused_status bytes (Query queries.TooLarge) now (says.refused (omega arith) (omega arith)))
+explained (Query queries.NotBuilt) words bytes now f f' says none short sound = inr (refused_status bytes (Query queries.NotBuilt) now (says.refused (omega arith) (omega arith)))
+explained WriteFault words bytes now f f' says none short sound =
+    let a = says.front refl in
+    inr (subst (λ (r : Result (List ℕ) ToolError). IsReplied r 7) (sym (answered_replied bytes a.0 now a.1)) (inr refl))
+explained Memory words bytes now f f' says none short sound = inl refl
+
+-- a request without a fault has its reply, unless memory runs out
+pub complete : (e : ToolError) (words : ℕ) (before now : Option (List ℕ)) (faults_before faults_now : ℕ)
+    → Says e words before now faults_before faults_now
+    → IfSome before (λ bytes. words ≡ 0 → length bytes ≤ 2 ^ 28 → ¬ Rose faults_before faults_now → (status_of e ≡ 8) ⊎ IsReplied (reply_to bytes) (status_of e))
+complete e words None now faults_before faults_now says = tt
+complete e words (Some bytes) now faults_before faults_now says = λ none short sound. explained e words bytes now faults_before faults_now says none short sound

@@ -1,0 +1,9 @@
+pub mod Errors
+pub mod Replies
+pub mod Runs
+pub use Rattle.byte_streams.specs.Faults
+pub use Rattle.byte_streams.specs.Whole
+pub use Rattle.join_request.specs.Request
+pub use Rattle.join_text.specs.Text
+pub use Rattle.join_model.specs.Answers
+pub use Rattle.join_engine.specs.Thin

@@ -1,0 +1,103 @@
+//! The program over any source and sinks.
+ghost use Rattle.std.specs.Prelude.{◌≡◌, ◌≢◌, ◌⊎◌, ◌↔◌, ◌<◌, ◌≤◌, ◌^◌, ℕ, List, length, OnOk, OnErr, IfErr, IfSome, Ok};
+ghost use Rattle.std.specs.Io.KnownBytes.{prepend_known, append_known};
+ghost use Rattle.byte_streams.specs.Faults.{Rose};
+ghost use Rattle.byte_streams.specs.Whole.{GrowsByFront};
+ghost use Rattle.join_command.specs.declared.error.ToolError.{ToolError};
+ghost use Rattle.join_command.specs.Errors.{status_of, line_of, status_after};
+ghost use Rattle.join_command.specs.Replies.{reply_to};
+ghost use Rattle.join_command.specs.Runs.{IsStatus, IsAnswered, IsRefused, WritesLine, IsReplied};
+
+use crate::{ToolError, answer_request};
+use join_text::{Sink, Source, read_to_end, write_all};
+use std::alloc::Global;
+use std::sync::ledger::Ledger;
+use step_count::Steps;
+
+/// The greatest number of bytes of a request.
+pub const REQUEST_LIMIT: usize = 1 << 28;
+
+/// Tells of an error in a line, and answers its status. A fault of the sink changes no status.
+pub fn report<E: Sink>(errors: &mut E, e: ToolError) -> u8
+    ensures status { result ≡ status_of e }
+    ensures line { WritesLine (E.held errors.old) (E.held errors.new) (E.faults errors.old) (E.faults errors.new) (line_of e) }
+    ensures never_falls { E.faults errors.old ≤ E.faults errors.new }
+{
+    let _ = write_all(errors, e.line().as_bytes());
+    e.status()
+}
+
+/// Reads a request, answers it, and writes the text of the answer, where there are no words.
+fn run_command<S: Source, O: Sink, L: Ledger>(
+    alloc: Global,
+    words: &[String],
+    source: &mut S,
+    out: &mut O,
+    steps: &mut Steps<L>,
+) -> Result<(), ToolError>
+    ensures usage { (status_after result ≡ 2) ↔ (0 < length words.now) }
+    ensures unread { status_after result ≡ 2 → source.new ≡ source.old }
+    ensures read_fault { status_after result ≡ 3 → Rose (S.faults source.old) (S.faults source.new) }
+    ensures too_long { (taken : List ℕ) × (S.left source.old ≡ prepend_known taken (S.left source.new)) × ((status_after result ≡ 4) ↔ (2 ^ 28 < length taken)) }
+    ensures refused { IfErr result (λ e. 5 ≤ status_of e → status_of e ≤ 6 → IsRefused (S.left source.old) (S.left source.new) e) }
+    ensures answered { OnOk result ((text : List ℕ) × IsAnswered (S.left source.old) (S.left source.new) text × (O.held out.new ≡ append_known (O.held out.old) text)) }
+    ensures write_fault { status_after result ≡ 7 → Rose (O.faults out.old) (O.faults out.new) }
+    ensures front { status_after result ≡ 7 → ((text : List ℕ) × IsAnswered (S.left source.old) (S.left source.new) text × GrowsByFront (O.held out.old) (O.held out.new) text) }
+    ensures untouched { 2 ≤ status_after result → status_after result ≢ 7 → out.new ≡ out.old }
+    ensures reads_never_fall { S.faults source.old ≤ S.faults source.new }
+    ensures writes_never_fall { O.faults out.old ≤ O.faults out.new }
+{
+    if !words.is_empty() {
+        return Err(ToolError::Usage);
+    }
+    let request = read_to_end(alloc, source, REQUEST_LIMIT)?;
+    let text = answer_request(alloc, &request, steps)?;
+    write_all(out, text.as_slice())?;
+    Ok(())
+}
+
+/// Runs the program: without words, answers the request that the source gives, and with words there is no command yet.
+/// Answers the exit status. A source or a sink that does not tell its bytes leaves the clauses on bytes without content.
+pub fn run_tool<S: Source, O: Sink, E: Sink, L: Ledger>(
+    alloc: Global,
+    words: &[String],
+    source: &mut S,
+    out: &mut O,
+    errors: &mut E,
+    steps: &mut Steps<L>,
+) -> u8
+    ensures status { IsStatus result }
+
+    // 0: the request was read, and the text of its answer was written whole, and nothing else anywhere.
+    ensures answered { result ≡ 0 → ((text : List ℕ) × IsAnswered (S.left source.old) (S.left source.new) text × (O.held out.new ≡ append_known (O.held out.old) text)) }
+    ensures quiet { result ≡ 0 → errors.new ≡ errors.old }
+
+    // 2: exactly where there are words. The source is as it was.
+    ensures usage { (result ≡ 2) ↔ (0 < length words.now) }
+    ensures unread { result ≡ 2 → source.new ≡ source.old }
+
+    // 3: only where the source failed.
+    ensures read_fault { result ≡ 3 → Rose (S.faults source.old) (S.faults source.new) }
+
+    // 4: exactly where more bytes were taken from the source than a request may have.
+    ensures too_long { (taken : List ℕ) × (S.left source.old ≡ prepend_known taken (S.left source.new)) × ((result ≡ 4) ↔ (2 ^ 28 < length taken)) }
+
+    // 5 and 6: the request was read, and it or its query is refused. Each status but 0: the line of the error is told.
+    ensures refused { result ≢ 0 → ((e : ToolError) × (result ≡ status_of e) × (5 ≤ result → result ≤ 6 → IsRefused (S.left source.old) (S.left source.new) e) × WritesLine (E.held errors.old) (E.held errors.new) (E.faults errors.old) (E.faults errors.new) (line_of e)) }
+
+    // 7: only where the sink failed, which holds a front of the text. With 2 to 6 and 8 the sink is as it was.
+    ensures write_fault { result ≡ 7 → Rose (O.faults out.old) (O.faults out.new) }
+    ensures front { result ≡ 7 → ((text : List ℕ) × IsAnswered (S.left source.old) (S.left source.new) text × GrowsByFront (O.held out.old) (O.held out.new) text) }
+    ensures untouched { 2 ≤ result → result ≢ 7 → out.new ≡ out.old }
+
+    // A request of at most 2^28 bytes that the source gives without a fault has its reply, unless memory runs out.
+    ensures complete { IfSome (S.left source.old) (λ bytes. length words.now ≡ 0 → length bytes ≤ 2 ^ 28 → ¬ Rose (S.faults source.old) (S.faults source.new) → (result ≡ 8) ⊎ IsReplied (reply_to bytes) result) }
+    ensures reads_never_fall { S.faults source.old ≤ S.faults source.new }
+    ensures writes_never_fall { O.faults out.old ≤ O.faults out.new }
+    ensures errors_never_fall { E.faults errors.old ≤ E.faults errors.new }
+{
+    match run_command(alloc, words, source, out, steps) {
+        Ok(()) => 0,
+        Err(e) => report(errors, e),
+    }
+}
