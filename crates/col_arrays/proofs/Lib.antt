@@ -1,0 +1,5 @@
+pub mod BitLists
+pub mod Writes
+pub mod Words
+pub mod Items
+pub mod Offsets

@@ -1,0 +1,23 @@
+-- Bytes that are cut at offsets.
+use Rattle.std.specs.Prelude.{◌≡◌, ◌<◌, ◌≤◌, ◌+◌, ◌-◌, ℕ, List, [], ◌∷◌, map, length, take, drop, slice_index}
+use Rattle.std.specs.List.{range_with_len}
+
+-- the bytes from an offset up to the next one
+abbrev pub piece : List ℕ → List ℕ → ℕ → List ℕ
+piece bytes offsets i = take (slice_index offsets (i + 1) - slice_index offsets i) (drop (slice_index offsets i) bytes)
+
+-- the bytes between each offset and the next one
+abbrev pub pieces : List ℕ → List ℕ → List (List ℕ)
+pieces bytes offsets = map (piece bytes offsets) (range_with_len 0 (length offsets - 1))
+
+-- offsets that start at 0, ascend, and end at the number of bytes
+pub record AreOffsets (bytes offsets : List ℕ) : Type 0 where
+  pub some : 0 < length offsets
+  pub start : slice_index offsets 0 ≡ 0
+  pub ascend : (i j : ℕ) → i ≤ j → j < length offsets → slice_index offsets i ≤ slice_index offsets j
+  pub end : slice_index offsets (length offsets - 1) ≡ length bytes
+
+-- offsets as they are kept: while there is no piece, the first offset may be left out
+abbrev pub opened : List ℕ → List ℕ
+opened [] = 0 ∷ []
+opened (o ∷ offsets) = o ∷ offsets

@@ -1,0 +1,107 @@
+//! Lists of bytes in one buffer.
+ghost use Rattle.std.specs.Prelude.{◌≡◌, ◌<◌, ◌≤◌, ◌+◌, [], ◌∷◌, ◌++◌, Some, length, map, OnOk, OnErr, IfOk, slice_get, vec_len, vec_capacity};
+ghost use Rattle.std.specs.List.{All};
+ghost use Rattle.col_arrays.specs.Pieces.{pieces, opened, AreOffsets};
+
+use crate::IdxSize;
+use std::alloc::{AllocError, Global};
+use std::marker::Model;
+
+/// Pieces of bytes, one after the other in one buffer: piece `i` goes from offset `i` up to
+/// offset `i + 1`. While there is no piece the first offset may be left out.
+#[derive(Debug, Drop)]
+pub(crate) struct Pieces {
+    bytes: Vec<u8>,
+    offsets: Vec<u64>,
+}
+
+impl Model for Pieces {
+    ghost use Rattle.std.specs.Prelude.{List, ℕ};
+    ghost use Rattle.col_arrays.specs.Pieces.{pieces, opened, AreOffsets};
+
+    ghost Value = { List (List ℕ) };
+
+    ghost view = { λ p. pieces p.bytes.items (opened p.offsets.items) };
+
+    ghost invariant = { λ p. AreOffsets p.bytes.items (opened p.offsets.items) };
+}
+
+impl Pieces {
+    /// No pieces yet.
+    #[tactic(auto, using(crate::proofs::Offsets::sizes))]
+    pub(crate) fn new(alloc: Global) -> Self
+        ensures { result ≡ [] }
+    {
+        Pieces {
+            bytes: Vec::new(alloc),
+            offsets: Vec::new(alloc),
+        }
+    }
+
+    /// The bytes between the offsets.
+    #[tactic(auto, using(crate::proofs::Offsets::sizes))]
+    pub(crate) fn from_parts(bytes: Vec<u8>, offsets: Vec<u64>) -> Self
+        requires { AreOffsets bytes.items offsets.items }
+        ensures { result ≡ pieces bytes.items offsets.items }
+    {
+        Pieces { bytes, offsets }
+    }
+
+    /// The number of pieces.
+    #[tactic(auto, using(crate::proofs::Offsets::sizes))]
+    pub(crate) fn len(&self) -> usize
+        ensures { result ≡ length self.now }
+    {
+        self.offsets.len().saturating_sub(1)
+    }
+
+    /// The piece at a place.
+    pub(crate) fn get(&self, i: usize) -> &[u8]
+        requires { i < length self.now }
+        ensures { slice_get self.now i ≡ Some result.now }
+    {
+        let start = self.offsets[i] as usize;
+        let end = self.offsets[i + 1] as usize;
+        &self.bytes[start..end]
+    }
+
+    /// The allocator that the pieces are kept by.
+    pub(crate) fn allocator(&self) -> Global {
+        *self.bytes.allocator()
+    }
+
+    /// Appends a piece. After `Err` the pieces are as they were.
+    #[tactic(auto, using(crate::proofs::Offsets::pushes))]
+    pub(crate) fn push(&mut self, piece: &[u8]) -> Result<(), AllocError>
+        ensures ok { OnOk result (self.new ≡ self.old ++ piece.now ∷ []) }
+        ensures err { OnErr result (self.new ≡ self.old) }
+    {
+        self.offsets.reserve(2)?;
+        self.bytes.extend_from_slice(piece)?;
+        end_piece(&mut self.offsets, self.bytes.len() as u64);
+        Ok(())
+    }
+
+    /// The pieces at indexes, in the order of the indexes.
+    pub(crate) fn take(&self, alloc: Global, idxs: &[IdxSize]) -> Result<Self, AllocError>
+        requires { All (λ i. i < length self.now) idxs.now }
+        ensures { IfOk result (λ taken. map Some taken ≡ map (slice_get self.now) idxs.now) }
+    {
+        let mut taken = Pieces::new(alloc);
+        for idx in idxs {
+            taken.push(self.get(*idx as usize))?;
+        }
+        Ok(taken)
+    }
+}
+
+/// Ends a piece at an offset, for which there is room.
+fn end_piece(offsets: &mut Vec<u64>, end: u64)
+    requires room { vec_len offsets.old + 2 ≤ vec_capacity offsets.old }
+    ensures { offsets.new.items ≡ opened offsets.old.items ++ end ∷ [] }
+{
+    if offsets.is_empty() {
+        offsets.push_reserved(0);
+    }
+    offsets.push_reserved(end);
+}

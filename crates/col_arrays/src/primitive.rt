@@ -1,0 +1,172 @@
+//! Arrays of numbers, of which some may be null.
+ghost use Rattle.std.specs.Prelude.{◌≡◌, ◌<◌, Bool, [], ◌∷◌, ◌++◌, Some, true, false, length, map, OnOk, OnErr, IfOk, IfSome, MatchOption, option_and_then, slice_index_or, slice_get};
+ghost use Rattle.std.specs.List.{All};
+ghost use Rattle.col_arrays.specs.Items.{item_of, stored, presence, all_present, nulls, marked};
+
+use crate::IdxSize;
+use crate::bitmap::Bitmap;
+use crate::native::Native;
+use crate::validity::Validity;
+use std::alloc::{AllocError, Global};
+use std::marker::Model;
+
+/// Numbers, of which some may be null. Contracts see a list of items: the number that is
+/// stored, also under a null, and whether it is present.
+#[derive(Debug, Drop)]
+pub struct PrimitiveArray<T> {
+    stored: Vec<T>,
+    validity: Validity,
+}
+
+impl<T> Model for PrimitiveArray<T> {
+    ghost use Rattle.std.specs.Prelude.{◌≡◌, List, Bool, length};
+    ghost use Rattle.std.specs.List.{zip};
+    ghost use Rattle.std.specs.Coded.{coded_list, coded×, coded_bool};
+
+    ghost Value = { List (T × Bool) };
+
+    ghost coded = { coded_list (coded× T.code coded_bool) };
+
+    ghost view = { λ a. zip a.stored.items a.validity };
+
+    ghost invariant = { λ a. length a.validity ≡ length a.stored.items };
+}
+
+impl<T: Copy> PrimitiveArray<T> {
+    /// No items yet.
+    pub fn new(alloc: Global) -> Self
+        ensures { result ≡ [] }
+    {
+        PrimitiveArray {
+            stored: Vec::new(alloc),
+            validity: Validity::new(None, 0),
+        }
+    }
+
+    /// The values, none of them null.
+    #[tactic(auto, using(crate::proofs::Items::views))]
+    pub fn from_vec(values: Vec<T>) -> Self
+        ensures { result ≡ all_present values.items }
+    {
+        let validity = Validity::new(None, values.len());
+        PrimitiveArray {
+            stored: values,
+            validity,
+        }
+    }
+
+    /// The same values, null where the bit of `validity` is not set. Without a bitmap none is null.
+    #[tactic(auto, using(crate::proofs::Items::views))]
+    pub fn with_validity(self, validity: Option<Bitmap>) -> Self
+        requires { IfSome validity (λ marks. length marks ≡ length self) }
+        ensures { result ≡ marked self validity }
+    {
+        let PrimitiveArray {
+            stored,
+            validity: _,
+        } = self;
+        let validity = Validity::new(validity, stored.len());
+        PrimitiveArray { stored, validity }
+    }
+
+    /// Which items are present: `None` only where no item is null.
+    #[tactic(auto, using(crate::proofs::Items::views))]
+    pub fn validity(&self) -> Option<&Bitmap>
+        ensures { MatchOption result (All (λ item. item.1 ≡ true) self.now) (λ marks. marks.now ≡ presence self.now) }
+    {
+        self.validity.marks()
+    }
+
+    /// The number of items, nulls among them.
+    #[tactic(auto, using(crate::proofs::Items::views))]
+    pub fn len(&self) -> usize
+        ensures { result ≡ length self.now }
+    {
+        self.stored.len()
+    }
+
+    /// The number of nulls.
+    #[tactic(auto, using(crate::proofs::Items::views))]
+    pub fn null_count(&self) -> usize
+        ensures { result ≡ nulls self.now }
+    {
+        self.validity.null_count()
+    }
+
+    /// What is stored, under nulls too.
+    #[tactic(auto, using(crate::proofs::Items::views))]
+    pub fn values(&self) -> &[T]
+        ensures { result.now ≡ stored self.now }
+    {
+        &self.stored
+    }
+
+    /// The value at a place, or `None` for a null.
+    #[tactic(auto, using(crate::proofs::Items::finds))]
+    pub fn get(&self, i: usize) -> Option<T>
+        requires { i < length self.now }
+        ensures { result ≡ option_and_then item_of (slice_get self.now i) }
+    {
+        let value = self.stored[i];
+        if self.validity.get(i) {
+            Some(value)
+        } else {
+            None
+        }
+    }
+
+    /// The items at indexes, in the order of the indexes.
+    pub fn take(&self, alloc: Global, idxs: &[IdxSize]) -> Result<Self, AllocError>
+        requires { All (λ i. i < length self.now) idxs.now }
+        ensures { IfOk result (λ taken. map Some taken ≡ map (slice_get self.now) idxs.now) }
+    {
+        let stored = take_values(alloc, &self.stored, idxs)?;
+        let validity = self.validity.take(alloc, idxs)?;
+        Ok(PrimitiveArray { stored, validity })
+    }
+
+    /// Appends an item. After `Err` the array is as it was.
+    #[tactic(auto, using(crate::proofs::Items::pushes))]
+    pub fn push(&mut self, value: T, present: bool) -> Result<(), AllocError>
+        ensures ok { OnOk result (self.new ≡ self.old ++ (value, present) ∷ []) }
+        ensures err { OnErr result (self.new ≡ self.old) }
+    {
+        let alloc = *self.stored.allocator();
+        self.stored.reserve(1)?;
+        self.validity.push(alloc, present)?;
+        self.stored.push_reserved(value);
+        Ok(())
+    }
+
+    /// Appends the item at a place of another array. After `Err` the array is as it was.
+    #[tactic(auto, using(crate::proofs::Items::finds))]
+    pub fn push_from(&mut self, source: &Self, i: usize) -> Result<(), AllocError>
+        requires { i < length source.now }
+        ensures ok { OnOk result ((d : T × Bool) → self.new ≡ self.old ++ slice_index_or source.now i d ∷ []) }
+        ensures err { OnErr result (self.new ≡ self.old) }
+    {
+        self.push(source.stored[i], source.validity.get(i))
+    }
+}
+
+impl<T: Native> PrimitiveArray<T> {
+    /// Appends a null, under which 0 is stored. After `Err` the array is as it was.
+    pub fn push_null(&mut self) -> Result<(), AllocError>
+        ensures ok { OnOk result (self.new ≡ self.old ++ (T.zero, false) ∷ []) }
+        ensures err { OnErr result (self.new ≡ self.old) }
+    {
+        self.push(T::zero(), false)
+    }
+}
+
+/// The values at indexes, in the order of the indexes.
+fn take_values<T: Copy>(alloc: Global, values: &[T], idxs: &[IdxSize]) -> Result<Vec<T>, AllocError>
+    requires { All (λ i. i < length values.now) idxs.now }
+    ensures { IfOk result (λ taken. map Some taken.items ≡ map (slice_get values.now) idxs.now) }
+{
+    let mut taken = Vec::with_capacity(alloc, idxs.len())?;
+    for idx in idxs {
+        taken.push_reserved(values[*idx as usize]);
+    }
+    Ok(taken)
+}

@@ -1,0 +1,7 @@
+//! Tests of bits and arrays.
+#![tactic(auto)]
+
+#[cfg(test)]
+mod arrays;
+#[cfg(test)]
+mod bits;
