@@ -1,11 +1,12 @@
 -- Bytes that are cut at offsets.
-use Rattle.std.proofs.Common.{◌≡◌, ℕ, zero, suc, ◌+◌, ◌-◌, ◌<◌, ◌≤◌, List, [], ◌∷◌, ◌++◌, length, drop, get_or, slice_get, Some, refl, sym, ap, ◌∙◌, subst, arith, zero-add, ◌⊎◌, inl, inr}
+use Rattle.std.proofs.Common.{◌≡◌, ℕ, ◌+◌, ◌-◌, ◌<◌, ◌≤◌, List, [], ◌∷◌, ◌++◌, length, drop, get_or, slice_get, Some, refl, sym, ap, ◌∙◌, subst, arith, zero-add, ◌⊎◌, inl, inr}
 use Rattle.std.proofs.lemmas.List.{length-append, length-drop, take_all, drop-append-le, take-append-le, get_or_append_left}
 use Rattle.std.proofs.lemmas.List.FromFn.{length-map-range_with_len, get_or-map-range_with_len, fill_by_all}
 use Rattle.std.proofs.Math.ListN.{drop_of_length-le}
 use Rattle.std.proofs.lemmas.Bool.{cases_lt}
 use Rattle.std.proofs.Math.Seq.{get_or-append_seam}
 use Rattle.std.proofs.lemmas.Option.{slice_get-get_or}
+use Rattle.std.proofs.lemmas.List.Sorted.{IsNonDecreasingBy-from_default}
 use Rattle.col_arrays.specs.Pieces.{piece, pieces, opened, AreOffsets}
 
 pub length-pieces : (bytes offsets : List ℕ) → length (pieces bytes offsets) ≡ length offsets - 1
@@ -18,10 +19,10 @@ pub slice_get-pieces : (bytes offsets : List ℕ) (i : ℕ) → i < length offse
 slice_get-pieces bytes offsets i h = slice_get-get_or (pieces bytes offsets) i [] (rw (length-pieces bytes offsets) h) ∙ ap Some (piece_at bytes offsets i [] h)
 
 pub step_up : (bytes offsets : List ℕ) (i : ℕ) → AreOffsets bytes offsets → i + 1 < length offsets → get_or offsets i 0 ≤ get_or offsets (i + 1) 0
-step_up bytes offsets i h l = h.ascend i (i + 1) (omega arith) l
+step_up bytes offsets i h l = h.ascend i (i + 1) 0 (omega arith) l
 
 pub within_bytes : (bytes offsets : List ℕ) (i : ℕ) → AreOffsets bytes offsets → i < length offsets → get_or offsets i 0 ≤ length bytes
-within_bytes bytes offsets i h l = subst (λ e. get_or offsets i 0 ≤ e) h.end (h.ascend i (length offsets - 1) (omega arith) (omega arith))
+within_bytes bytes offsets i h l = subst (λ e. get_or offsets i 0 ≤ e) h.end (h.ascend i (length offsets - 1) 0 (omega arith) (omega arith))
 
 -- ---- offsets as they are kept
 
@@ -34,12 +35,8 @@ pub opened_all : (offsets : List ℕ) → 0 < length offsets → opened offsets 
 opened_all [] h = absurd (omega arith)
 opened_all (o ∷ offsets) h = refl
 
-at_zero : (i : ℕ) → ◌≡◌ {A = ℕ} (get_or (0 ∷ []) i 0) 0
-at_zero zero = refl
-at_zero (suc i) = refl
-
 pub no_offsets : AreOffsets [] (0 ∷ [])
-no_offsets = record { some = omega arith; start = refl; ascend = λ i j le l. rw (at_zero i) (omega arith); end = refl }
+no_offsets = record { some = omega arith; start = refl; ascend = λ i j d le l. let same : i ≡ j = omega arith in rw same (omega arith); end = refl }
 
 -- ---- one more piece
 
@@ -96,7 +93,7 @@ offset_within : (bytes more offsets : List ℕ) (i j : ℕ) → AreOffsets bytes
 offset_within bytes more offsets i j h le l =
     let e = length (bytes ++ more) in
     elim (cases_lt j (length offsets)) [
-      | inl before ↦ rw (get_or_append_left offsets (e ∷ []) 0 i (omega arith), get_or_append_left offsets (e ∷ []) 0 j before) (h.ascend i j le before)
+      | inl before ↦ rw (get_or_append_left offsets (e ∷ []) 0 i (omega arith), get_or_append_left offsets (e ∷ []) 0 j before) (h.ascend i j 0 le before)
       | inr after ↦
           let last : get_or (offsets ++ e ∷ []) j 0 ≡ e = ap (λ k. get_or (offsets ++ e ∷ []) k 0) (omega arith) ∙ get_or-append_seam offsets e [] 0 in
           elim (cases_lt i (length offsets)) [
@@ -113,7 +110,7 @@ offsets_more bytes more offsets h =
     record {
       some = omega arith;
       start = get_or_append_left offsets (e ∷ []) 0 0 some ∙ h.start;
-      ascend = λ i j le l. offset_within bytes more offsets i j h le (omega arith);
+      ascend = IsNonDecreasingBy-from_default (λ o. o) (offsets ++ e ∷ []) 0 (λ i j le l. offset_within bytes more offsets i j h le (omega arith));
       end = ap (λ k. get_or (offsets ++ e ∷ []) k 0) (omega arith) ∙ get_or-append_seam offsets e [] 0;
     }
 

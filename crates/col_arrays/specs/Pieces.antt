@@ -1,6 +1,7 @@
 -- Bytes that are cut at offsets.
-use Rattle.std.specs.Prelude.{◌≡◌, ◌<◌, ◌≤◌, ◌+◌, ◌-◌, ℕ, List, [], ◌∷◌, map, length, take, drop, slice_index}
+use Rattle.std.specs.Prelude.{◌≡◌, ◌<◌, ◌+◌, ◌-◌, ℕ, List, [], ◌∷◌, map, length, take, drop, slice_index}
 use Rattle.std.specs.List.{range_with_len}
+use Rattle.std.specs.List.Sorted.{IsNonDecreasing}
 
 -- the bytes from an offset up to the next one
 abbrev pub piece : List ℕ → List ℕ → ℕ → List ℕ
@@ -14,7 +15,7 @@ pieces bytes offsets = map (piece bytes offsets) (range_with_len 0 (length offse
 pub record AreOffsets (bytes offsets : List ℕ) : Type 0 where
   pub some : 0 < length offsets
   pub start : slice_index offsets 0 ≡ 0
-  pub ascend : (i j : ℕ) → i ≤ j → j < length offsets → slice_index offsets i ≤ slice_index offsets j
+  pub ascend : IsNonDecreasing offsets
   pub end : slice_index offsets (length offsets - 1) ≡ length bytes
 
 -- offsets as they are kept: while there is no piece, the first offset may be left out

@@ -1,5 +1,5 @@
 //! Arrays of texts or bytes, of which some may be null.
-ghost use Rattle.std.specs.Prelude.{◌≡◌, ◌<◌, ◌≤◌, ◌+◌, ℕ, Bool, List, [], ◌∷◌, ◌++◌, Some, true, false, length, map, take, drop, OnOk, OnErr, IfOk, IfSome, MatchOption, option_and_then, slice_index_or, option_copied, slice_get};
+ghost use Rattle.std.specs.Prelude.{◌≡◌, ◌↔◌, ◌<◌, ◌≤◌, ◌+◌, ℕ, Bool, List, [], ◌∷◌, ◌++◌, Some, true, false, IsTrue, length, map, take, drop, OnOk, OnErr, IfOk, IfSome, MatchOption, option_and_then, slice_index_or, option_copied, slice_get};
 ghost use Rattle.std.specs.List.{All};
 ghost use Rattle.col_arrays.specs.Items.{item_of, stored, presence, all_present, nulls, marked};
 ghost use Rattle.col_arrays.specs.Pieces.{pieces, AreOffsets};
@@ -38,6 +38,18 @@ impl BinaryArray {
         BinaryArray {
             stored: Pieces::new(alloc),
             validity: Validity::new(None, 0),
+        }
+    }
+
+    /// Whether offsets cut the bytes: they start at 0, ascend, and end at the number of bytes.
+    pub fn are_offsets(bytes: &[u8], offsets: &[u64]) -> bool
+        ensures { IsTrue result ↔ AreOffsets bytes.now offsets.now }
+    {
+        match offsets.len().checked_sub(1) {
+            Some(last) => {
+                offsets[0] == 0 && offsets[last] == bytes.len() as u64 && offsets.is_sorted()
+            }
+            None => false,
         }
     }
 
@@ -162,6 +174,7 @@ impl BinaryArray {
         ensures { IfOk result (λ all. all ≡ self ++ take len (drop start source.now)) }
     {
         let _within = source.len();
+        self.stored.reserve(len)?;
         for i in 0..len {
             self.push_from(source, start + i)?;
         }

@@ -70,6 +70,13 @@ impl Pieces {
         *self.bytes.allocator()
     }
 
+    /// Makes room for the offsets of `n` more pieces.
+    pub(crate) fn reserve(&mut self, n: usize) -> Result<(), AllocError>
+        ensures { self.new ≡ self.old }
+    {
+        self.offsets.reserve(n.saturating_add(1))
+    }
+
     /// Appends a piece. After `Err` the pieces are as they were.
     #[tactic(auto, using(crate::proofs::Offsets::pushes))]
     pub(crate) fn push(&mut self, piece: &[u8]) -> Result<(), AllocError>
@@ -88,6 +95,7 @@ impl Pieces {
         ensures { IfOk result (λ taken. map Some taken ≡ map (slice_get self.now) idxs.now) }
     {
         let mut taken = Pieces::new(alloc);
+        taken.reserve(idxs.len())?;
         for idx in idxs {
             taken.push(self.get(*idx as usize))?;
         }

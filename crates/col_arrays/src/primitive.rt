@@ -154,6 +154,7 @@ impl<T: Copy> PrimitiveArray<T> {
         ensures { IfOk result (λ all. all ≡ self ++ take len (drop start source.now)) }
     {
         let _within = source.len();
+        self.stored.reserve(len)?;
         for i in 0..len {
             self.push_from(source, start + i)?;
         }
