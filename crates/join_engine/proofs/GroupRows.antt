@@ -33,7 +33,8 @@ use Rattle.join_model.specs.Answers.{ref_name, kind_prefix, key_field, reduction
 use Rattle.join_model.proofs.Decides.{tuple_eq-Decides}
 use Rattle.join_engine.specs.declared.totals.Entry.{Entry}
 use Rattle.join_engine.specs.Totals.{keys_of, total_of, add_entry, entry_at, entries_of, totals_table}
-use Rattle.join_engine.specs.Thin.{is_int64, is_sum, is_thin_group, are_thin_reductions}
+use Rattle.join_model.specs.Refusals.{is_int64, is_sum, is_one_sum}
+use Rattle.join_engine.specs.Simple.{is_one_column}
 use Rattle.join_engine.proofs.Grouped.{keyed_rows}
 
 pub sum_is : (kind : ReductionKind) → is_sum kind ≡ true → kind ≡ Sum
@@ -42,12 +43,8 @@ sum_is kind h = grind arith
 int64_is : (t : DataType) → is_int64 t ≡ true → t ≡ Int64
 int64_is t h = grind arith
 
-pub named_int64 : (o : Option DataType) → option_map_or is_int64 o false ≡ true → option_map_or (λ t. t) o Binary ≡ Int64
-named_int64 None h = absurd (false≢true h)
-named_int64 (Some t) h = int64_is t h
-
 -- one group key
-pub one_group : (q : Query) (refs : List ColumnRef) (g : ColumnRef) → is_thin_group q refs ≡ true → g ≡ get_or refs 0 g → refs ≡ g ∷ []
+pub one_group : (q : Query) (refs : List ColumnRef) (g : ColumnRef) → is_one_column q refs ≡ true → g ≡ get_or refs 0 g → refs ≡ g ∷ []
 one_group q [] g h e = absurd (false≢true h)
 one_group q (x ∷ []) g h e = ap (λ (y : ColumnRef). y ∷ []) (sym e)
 one_group q (x ∷ y ∷ refs) g h e = absurd (false≢true h)
@@ -58,14 +55,14 @@ pub record IsOneSum (q : Query) (reductions : List Reduction) (r : Reduction) : 
   pub kind : r.kind ≡ Sum
   pub dtype : ref_type q r.column ≡ Int64
 
-pub one_sum : (q : Query) (rs : List Reduction) (r : Reduction) → are_thin_reductions q rs ≡ true → r ≡ get_or rs 0 r → IsOneSum q rs r
+pub one_sum : (q : Query) (rs : List Reduction) (r : Reduction) → is_one_sum q rs ≡ true → r ≡ get_or rs 0 r → IsOneSum q rs r
 one_sum q [] r h e = absurd (false≢true h)
 one_sum q (x ∷ []) r h e =
-    let halves = both (is_sum x.kind) (option_map_or is_int64 (type_named x.column.name (schema_of q x.column.side)) false) h in
+    let halves = both (is_sum x.kind) (is_int64 (ref_type q x.column)) h in
     record {
       one = ap (λ (y : Reduction). y ∷ []) (sym e);
       kind = ap (λ (y : Reduction). y.kind) e ∙ sum_is x.kind halves.0;
-      dtype = ap (λ (y : Reduction). ref_type q y.column) e ∙ named_int64 (type_named x.column.name (schema_of q x.column.side)) halves.1;
+      dtype = ap (λ (y : Reduction). ref_type q y.column) e ∙ int64_is (ref_type q x.column) halves.1;
     }
 one_sum q (x ∷ y ∷ rs) r h e = absurd (false≢true h)
 

@@ -135,8 +135,8 @@ is_group_type String = true
 is_group_type _ = false
 
 -- more than one group key, or one that is neither `Int64` nor `String`
-abbrev pub is_group_not_built : Query → Bool
-is_group_not_built q = nat_lt 1 (length q.group_keys) || list_any (λ ref. not (is_group_type (ref_type q ref))) q.group_keys
+abbrev pub is_group_not_built : Query → List ColumnRef → Bool
+is_group_not_built q refs = nat_lt 1 (length refs) || list_any (λ ref. not (is_group_type (ref_type q ref))) refs
 
 -- exactly one sum, of an `Int64` column
 abbrev pub is_one_sum : Query → List Reduction → Bool
@@ -147,7 +147,7 @@ is_one_sum q _ = false
 abbrev pub is_not_built : Query → Bool
 is_not_built q = is_key_not_built q.build_schema q.build_keys || is_key_not_built q.probe_schema q.probe_keys
     || q.null_equal || q.keep_probe || q.keep_build || is_some q.filter
-    || is_group_not_built q || not (is_one_sum q q.reductions)
+    || is_group_not_built q q.group_keys || not (is_one_sum q q.reductions)
 
 -- a side has 2^31 or more frames or rows
 abbrev pub is_too_large : List Table → Bool

@@ -13,9 +13,6 @@ use Rattle.join_engine.proofs.Grouped.{keys_fit}
 use Rattle.join_engine.proofs.GroupRows.{one_group, one_sum, single_keys, table_is}
 use Rattle.join_engine.proofs.grouping.group_frame.Goals as goal
 
-pub totals_frame-requires-clause-built : goal.totals_frame-requires-clause-built
-totals_frame-requires-clause-built c = rw c.dtype.ensures c.joined_column-keys.ensures.built
-
 -- each distinct key has one value
 pub totals_frame-requires-clause-single : goal.totals_frame-requires-clause-single
 totals_frame-requires-clause-single c =
@@ -24,7 +21,7 @@ totals_frame-requires-clause-single c =
     let g = c.index-as_slice-0.result in
     let r = c.index-as_slice-0-2.result in
     let one = one_group q q.group_keys g c.requires.group (c.index-as_slice-0.is ∙ ap (λ (xs : List ColumnRef). get_or xs 0 g) c.as_slice.ensures) in
-    let sum = one_sum q q.reductions r c.requires.reductions (c.index-as_slice-0-2.is ∙ ap (λ (xs : List Reduction). get_or xs 0 r) c.as_slice-2.ensures) in
+    let sum = one_sum q q.reductions r c.requires.sum (c.index-as_slice-0-2.is ∙ ap (λ (xs : List Reduction). get_or xs 0 r) c.as_slice-2.ensures) in
     let es : c.deref.result.now ≡ entries_of (map (ref_value q g) rows) (map (ref_value q r.column) rows) = c.deref.ensures.value ∙ c.in_ok-entries.ensures.items
     ∙ ap (λ (ks : List Leaf). entries_of ks c.joined_column-values.result.now.values) c.joined_column-keys.ensures.values
     ∙ ap (λ (vs : List Leaf). entries_of (map (ref_value q g) rows) vs) c.joined_column-values.ensures.values in
@@ -46,7 +43,7 @@ returns c =
     let g = c.index-as_slice-0.result in
     let r = c.index-as_slice-0-2.result in
     let one = one_group q q.group_keys g c.requires.group (c.index-as_slice-0.is ∙ ap (λ (xs : List ColumnRef). get_or xs 0 g) c.as_slice.ensures) in
-    let sum = one_sum q q.reductions r c.requires.reductions (c.index-as_slice-0-2.is ∙ ap (λ (xs : List Reduction). get_or xs 0 r) c.as_slice-2.ensures) in
+    let sum = one_sum q q.reductions r c.requires.sum (c.index-as_slice-0-2.is ∙ ap (λ (xs : List Reduction). get_or xs 0 r) c.as_slice-2.ensures) in
     let es : c.deref.result.now ≡ entries_of (map (ref_value q g) rows) (map (ref_value q r.column) rows) = c.deref.ensures.value ∙ c.in_ok-entries.ensures.items
     ∙ ap (λ (ks : List Leaf). entries_of ks c.joined_column-values.result.now.values) c.joined_column-keys.ensures.values
     ∙ ap (λ (vs : List Leaf). entries_of (map (ref_value q g) rows) vs) c.joined_column-values.ensures.values in

@@ -1,19 +1,13 @@
 use Rattle.std.proofs.Common.{◌≡◌, List, map, sym, ap, ◌∙◌, subst}
 use Rattle.std.specs.List.{All}
 use Rattle.col_core.specs.declared.schema.Field.{Field}
-use Rattle.col_core.specs.Tables.{Row, Table, IsBuildable}
+use Rattle.col_core.specs.Tables.{Row, Table}
 use Rattle.join_model.specs.Joined.{rows_of, joined_rows}
 use Rattle.join_model.specs.Groups.{group_rows}
 use Rattle.join_model.specs.Answers.{joined_schema, group_schema, answer_rows}
 use Rattle.join_engine.specs.Pairs.{pair_row}
 use Rattle.join_engine.proofs.JoinedRows.{all_kept}
-use Rattle.join_engine.proofs.Thinness.{joined_built}
-use Rattle.join_engine.proofs.engine.thin_answer.Goals as goal
-
-pub group_frame-requires-clause-built : goal.group_frame-requires-clause-built
-group_frame-requires-clause-built c =
-    let schema : c.in_ok-rows.rows.schema ≡ joined_schema c.args.query.now = ap (λ (t : Table). t.schema) c.in_ok-rows.ensures in
-    subst (All (λ (f : Field). IsBuildable f.dtype)) (sym schema) (joined_built c.args.query.now c.args.build.now c.args.probe.now c.requires.thin)
+use Rattle.join_engine.proofs.engine.simple_answer.Goals as goal
 
 -- the pairs' rows are the joined rows, and all of these are kept
 pub returns-clause-rows : goal.returns-clause-rows
@@ -22,7 +16,7 @@ returns-clause-rows c =
     let B = c.args.build.now in
     let P = c.args.probe.now in
     let table : List Row → Table = λ rows. record { schema = joined_schema q; rows = rows } in
-    c.in_ok-rows.ensures ∙ ap table (ap (map (pair_row P B)) c.deref.ensures.value ∙ c.in_ok-pairs.ensures.rows ∙ sym (all_kept q (joined_rows q (rows_of B) (rows_of P)) c.requires.thin.no_filter))
+    c.in_ok-rows.ensures ∙ ap table (ap (map (pair_row P B)) c.deref.ensures.value ∙ c.in_ok-pairs.ensures.rows ∙ sym (all_kept q (joined_rows q (rows_of B) (rows_of P)) c.requires.simple.no_filter))
 
 pub returns-clause-groups : goal.returns-clause-groups
 returns-clause-groups c =
@@ -30,5 +24,5 @@ returns-clause-groups c =
     let B = c.args.build.now in
     let P = c.args.probe.now in
     let joined = joined_rows q (rows_of B) (rows_of P) in
-    let rows : c.in_ok-rows.rows ≡ answer_rows q B P = c.in_ok-rows.ensures ∙ ap (λ (rows : List Row). record { schema = joined_schema q; rows = rows }) (ap (map (pair_row P B)) c.deref.ensures.value ∙ c.in_ok-pairs.ensures.rows ∙ sym (all_kept q joined c.requires.thin.no_filter)) in
+    let rows : c.in_ok-rows.rows ≡ answer_rows q B P = c.in_ok-rows.ensures ∙ ap (λ (rows : List Row). record { schema = joined_schema q; rows = rows }) (ap (map (pair_row P B)) c.deref.ensures.value ∙ c.in_ok-pairs.ensures.rows ∙ sym (all_kept q joined c.requires.simple.no_filter)) in
     c.in_ok-groups.ensures ∙ ap (λ (t : Table). record { schema = group_schema q; rows = group_rows q t.rows }) rows
