@@ -1,6 +1,6 @@
 -- The columns that a query names, list by list.
-use Rattle.std.proofs.Common.{◌≡◌, ℕ, zero, suc, ◌+◌, ◌<◌, Bool, true, false, List, [], ◌∷◌, ◌++◌, map, length, cond, Option, Some, None, refl, sym, ap, ap₂, ◌∙◌, arith, inl, inr}
-use Rattle.std.specs.Prelude.{position, nat_lt}
+use Rattle.std.proofs.Common.{◌≡◌, ℕ, ◌+◌, Bool, true, false, List, [], ◌∷◌, ◌++◌, map, length, cond, Option, Some, None, refl, sym, ap, ap₂, ◌∙◌, arith, inl, inr}
+use Rattle.std.specs.Prelude.{position}
 use Rattle.std.specs.List.{position_or_len}
 use Rattle.std.specs.Option.{option_map, option_or}
 use Rattle.std.proofs.lemmas.Bool.{cases_Bool, cases_lt}
@@ -11,7 +11,7 @@ use Rattle.join_model.specs.declared.query.Side.{Side}
 use Rattle.join_model.specs.declared.query.Side.TheVariants as sides
 use Rattle.join_model.specs.declared.query.ColumnRef.{ColumnRef}
 use Rattle.join_model.specs.declared.query.Reduction.{Reduction}
-use Rattle.join_model.specs.Refusals.{is_unknown, filter_columns, named_columns, unknown_column}
+use Rattle.join_model.specs.Refusals.{is_unknown, filter_columns, unknown_column}
 
 -- a place that counts on from n items
 abbrev after : ℕ → Option ℕ → Option ℕ

@@ -1,7 +1,6 @@
 -- The groups of joined rows under one group key and one sum, from the entries of the rows.
-use Rattle.std.proofs.Common.{◌≡◌, ℕ, ℤ, pos, ◌<◌, Bool, true, false, ◌&&◌, cond, List, [], ◌∷◌, ◌++◌, map, filter, fold, length, get_or, Option, Some, None, refl, sym, ap, ◌∙◌, subst, arith}
+use Rattle.std.proofs.Common.{◌≡◌, ℕ, ℤ, pos, ◌<◌, Bool, true, false, cond, List, [], ◌∷◌, ◌++◌, map, filter, fold, length, get_or, refl, sym, ap, ◌∙◌, subst, arith}
 use Rattle.std.specs.List.{All}
-use Rattle.std.specs.Option.{option_map_or}
 use Rattle.std.proofs.lemmas.Bool.{false≢true}
 use Rattle.std.proofs.lemmas.List.{length-map, get_or-map}
 use Rattle.std.proofs.lemmas.List.FromFn.{fill_by_all}
@@ -12,12 +11,11 @@ use Rattle.col_core.specs.declared.leaf.Leaf.{Leaf}
 use Rattle.col_core.specs.declared.leaf.Leaf.TheVariants as leaves
 use Rattle.col_core.specs.declared.schema.Field.{Field}
 use Rattle.col_core.specs.declared.data_type.DataType.{DataType}
-use Rattle.col_core.specs.declared.data_type.DataType.TheVariants.{Int64, Binary}
+use Rattle.col_core.specs.declared.data_type.DataType.TheVariants.{Int64}
 use Rattle.col_core.specs.Values.{value_at}
 use Rattle.col_core.specs.Tables.{Row, Table, rows_from}
 use Rattle.col_core.proofs.Equalities.{both}
 use Rattle.col_core.proofs.Rows.{map_agree}
-use Rattle.col_core.specs.Schemas.{type_named}
 use Rattle.reduce_model.specs.declared.kind.ReductionKind.{ReductionKind}
 use Rattle.reduce_model.specs.declared.kind.ReductionKind.TheVariants.{Sum}
 use Rattle.reduce_model.specs.Folds.{fold_of, add_value, reduced_type}
@@ -27,7 +25,7 @@ use Rattle.join_model.specs.declared.query.Query.{Query}
 use Rattle.join_model.specs.declared.query.ColumnRef.{ColumnRef}
 use Rattle.join_model.specs.declared.query.Reduction.{Reduction}
 use Rattle.join_model.specs.Keys.{tuple_eq}
-use Rattle.join_model.specs.Filtered.{schema_of, ref_value}
+use Rattle.join_model.specs.Filtered.{ref_value}
 use Rattle.join_model.specs.Groups.{ref_type, group_key, group_keys, members_of, reduced, group_row, group_rows}
 use Rattle.join_model.specs.Answers.{ref_name, kind_prefix, key_field, reduction_field, group_schema}
 use Rattle.join_model.proofs.Decides.{tuple_eq-Decides}

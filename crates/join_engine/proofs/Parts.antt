@@ -1,7 +1,6 @@
 -- What a query has for which there is no refusal before its rows are read.
-use Rattle.std.proofs.Common.{◌≡◌, ℕ, ◌+◌, ◌^◌, ◌<◌, Bool, true, false, ◌||◌, not, List, [], ◌∷◌, length, get_or, Option, Some, None, is_some, refl, sym, ap, ◌∙◌, arith, cond}
+use Rattle.std.proofs.Common.{◌≡◌, ℕ, ◌^◌, ◌<◌, Bool, true, false, ◌||◌, not, List, [], ◌∷◌, length, get_or, Option, Some, None, is_some, refl, sym, arith}
 use Rattle.std.specs.Prelude.{IsSome, nat_le}
-use Rattle.std.specs.List.{All}
 use Rattle.std.specs.Option.{option_map, option_map_or}
 use Rattle.std.proofs.lemmas.Bool.{false≢true, leb-false}
 use Rattle.std.proofs.lemmas.List.Elements.{All-cons, All-nil}
@@ -20,7 +19,7 @@ use Rattle.join_model.specs.Filtered.{schema_of}
 use Rattle.std.specs.Cmp.Lexicographic.{pointwise}
 use Rattle.col_core.specs.Schemas.{dtype_eq}
 use Rattle.join_model.specs.Groups.{ref_type}
-use Rattle.join_model.specs.Refusals.{types_named, operand_type, is_empty, lacks_keys, unknown_column, repeats_name, has_other_frame, schemas_differ, unsupported_reduction, filter_is_unsupported, is_good_plan, is_int64, is_key_not_built, is_group_type, is_group_not_built, is_one_sum, is_not_built, is_too_large, lists_too_many, when, first_of, checked_refusal, refusal_of}
+use Rattle.join_model.specs.Refusals.{types_named, operand_type, is_empty, lacks_keys, unknown_column, repeats_name, has_other_frame, schemas_differ, unsupported_reduction, filter_is_unsupported, is_good_plan, is_int64, is_key_not_built, is_group_type, is_group_not_built, is_one_sum, is_not_built, is_too_large, when, first_of, checked_refusal}
 use Rattle.join_engine.specs.Places.{AllHave}
 use Rattle.join_engine.specs.Simple.{is_one_name, is_one_column, IsSimple}
 use Rattle.join_engine.proofs.Columns.{position_is_some}

@@ -1,6 +1,4 @@
-use Rattle.std.proofs.Common.{◌≡◌, List, map, sym, ap, ◌∙◌, subst}
-use Rattle.std.specs.List.{All}
-use Rattle.col_core.specs.declared.schema.Field.{Field}
+use Rattle.std.proofs.Common.{◌≡◌, List, map, sym, ap, ◌∙◌}
 use Rattle.col_core.specs.Tables.{Row, Table}
 use Rattle.join_model.specs.Joined.{rows_of, joined_rows}
 use Rattle.join_model.specs.Groups.{group_rows}
