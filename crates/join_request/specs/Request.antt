@@ -10,7 +10,7 @@ use Rattle.join_model.specs.declared.query.Plan.{Plan}
 use Rattle.join_request.specs.Json.{◌>>=◌, value_of, object_of}
 use Rattle.join_request.specs.Parts.{side_of_value, join_of_value, columns_of_value, reductions_of_value}
 use Rattle.join_request.specs.declared.error.RequestError.{RequestError}
-use Rattle.join_request.specs.declared.error.RequestError.TheVariants.{NotJson, Float, NotBuilt}
+use Rattle.join_request.specs.declared.error.RequestError.TheVariants.{NotJson, Float, Shape}
 use Rattle.join_request.specs.declared.parts.RequestSide.{RequestSide}
 use Rattle.join_request.specs.declared.parts.JoinKeys.{JoinKeys}
 use Rattle.join_request.specs.declared.reader.Request.{Request}
@@ -61,7 +61,7 @@ request_of_value d = do
 
 -- a float anywhere comes before a wrong shape
 abbrev pub request_without_floats : Data → Result Request RequestError
-request_without_floats d = if has_float d then Err Float else ok_or (request_of_value d) NotBuilt
+request_without_floats d = if has_float d then Err Float else ok_or (request_of_value d) Shape
 
 -- the request that bytes are
 abbrev pub request_of : List ℕ → Result Request RequestError

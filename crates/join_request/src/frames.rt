@@ -24,7 +24,7 @@ pub fn read_frames(
     ensures err { IfErr result (Refuses (frames_of_value schema.now (view value.now))) }
 {
     let Some(items) = value.as_array() else {
-        return Err(RequestError::NotBuilt);
+        return Err(RequestError::Shape);
     };
     let mut frames = Vec::new(alloc);
     for item in items {
@@ -54,7 +54,7 @@ fn read_rows(
     ensures fits { IfOk result (λ rows. All (FitsSchema fields.now) rows.items) }
 {
     let Some(items) = value.as_array() else {
-        return Err(RequestError::NotBuilt);
+        return Err(RequestError::Shape);
     };
     let mut rows = Vec::new(alloc);
     for item in items {
@@ -71,10 +71,10 @@ fn read_row(alloc: Global, fields: &[Field], value: &Value) -> Result<List<Leaf>
     ensures fits { IfOk result (FitsSchema fields.now) }
 {
     let Some(items) = value.as_array() else {
-        return Err(RequestError::NotBuilt);
+        return Err(RequestError::Shape);
     };
     if items.len() != fields.len() {
-        return Err(RequestError::NotBuilt);
+        return Err(RequestError::Shape);
     }
     read_items(alloc, fields, items)
 }
@@ -105,13 +105,13 @@ fn read_leaf(alloc: Global, dtype: DataType, value: &Value) -> Result<Leaf, Requ
     match dtype {
         DataType::Int64 => match value.as_i64() {
             Some(n) => Ok(Leaf::Whole(i128::from(n))),
-            None => Err(RequestError::NotBuilt),
+            None => Err(RequestError::Shape),
         },
         DataType::String => match value.as_str() {
             Some(text) => Ok(Leaf::Bytes(Blob::new(alloc, text.as_bytes())?)),
-            None => Err(RequestError::NotBuilt),
+            None => Err(RequestError::Shape),
         },
-        _ => Err(RequestError::NotBuilt),
+        _ => Err(RequestError::Shape),
     }
 }
 

@@ -96,7 +96,7 @@ fn read_column(alloc: Global, text: &str) -> Result<ColumnRef, RequestError>
     } else if let Some(name) = text.strip_prefix("probe.") {
         (Side::Probe, name)
     } else {
-        return Err(RequestError::NotBuilt);
+        return Err(RequestError::Shape);
     };
     Ok(ColumnRef {
         side,
@@ -129,6 +129,6 @@ fn kind_named(text: &str) -> Result<ReductionKind, RequestError>
         "max" => Ok(ReductionKind::Max),
         "first" => Ok(ReductionKind::First),
         "last" => Ok(ReductionKind::Last),
-        _ => Err(RequestError::NotBuilt),
+        _ => Err(RequestError::Shape),
     }
 }

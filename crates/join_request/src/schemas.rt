@@ -21,7 +21,7 @@ fn type_named(text: &str) -> Result<DataType, RequestError>
     match text {
         "Int64" => Ok(DataType::Int64),
         "String" => Ok(DataType::String),
-        _ => Err(RequestError::NotBuilt),
+        _ => Err(RequestError::Shape),
     }
 }
 

@@ -73,7 +73,7 @@ pub fn read_list<T: FromValue>(alloc: Global, value: &Value) -> Result<List<T>, 
     ensures err { IfErr result (Refuses (list_of T.from_value (view value.now))) }
 {
     let Some(items) = value.as_array() else {
-        return Err(RequestError::NotBuilt);
+        return Err(RequestError::Shape);
     };
     let mut found = Vec::new(alloc);
     for item in items {
@@ -99,7 +99,7 @@ pub fn object_named<'a>(value: &'a Value, names: &[&str]) -> Result<&'a Value, R
 {
     match value.as_object() {
         Some(members) if has_only(members, names) => Ok(value),
-        _ => Err(RequestError::NotBuilt),
+        _ => Err(RequestError::Shape),
     }
 }
 
@@ -130,7 +130,7 @@ pub fn member<'a>(value: &'a Value, name: &str) -> Result<&'a Value, RequestErro
     ensures ok { IfOk result (λ found. get name.now (view value.now) ≡ Some (view found.now)) }
     ensures err { IfErr result (Refuses (get name.now (view value.now))) }
 {
-    value.get(name).ok_or(RequestError::NotBuilt)
+    value.get(name).ok_or(RequestError::Shape)
 }
 
 /// The items of a list of two.
@@ -140,11 +140,11 @@ pub fn read_pair(value: &Value) -> Result<(&Value, &Value), RequestError>
     ensures err { IfErr result (Refuses (pair_of (view value.now))) }
 {
     let Some(items) = value.as_array() else {
-        return Err(RequestError::NotBuilt);
+        return Err(RequestError::Shape);
     };
     match items.as_slice() {
         [first, second] => Ok((first, second)),
-        _ => Err(RequestError::NotBuilt),
+        _ => Err(RequestError::Shape),
     }
 }
 
@@ -153,5 +153,5 @@ pub fn read_text(value: &Value) -> Result<&str, RequestError>
     ensures ok { IfOk result (λ text. as_str (view value.now) ≡ Some text.now) }
     ensures err { IfErr result (Refuses (as_str (view value.now))) }
 {
-    value.as_str().ok_or(RequestError::NotBuilt)
+    value.as_str().ok_or(RequestError::Shape)
 }
