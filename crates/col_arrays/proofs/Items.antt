@@ -1,7 +1,7 @@
 -- Items as two lists of one length: what is stored, and which items are present.
-use Rattle.std.proofs.Common.{◌≡◌, ℕ, zero, suc, ◌+◌, ◌<◌, ◌≤◌, Bool, true, false, not, List, [], ◌∷◌, ◌++◌, map, length, take, replicate, get_or, Option, Some, None, Bor, MatchOption, Result, Ok, Err, OnOk, slice_get, option_and_then, refl, sym, ap, ap₂, ◌∙◌, arith}
+use Rattle.std.proofs.Common.{◌≡◌, ℕ, zero, suc, ◌+◌, ◌<◌, ◌≤◌, Bool, true, false, not, List, [], ◌∷◌, ◌++◌, map, length, take, drop, replicate, get_or, Option, Some, None, Bor, MatchOption, Result, Ok, Err, OnOk, slice_get, option_and_then, refl, sym, ap, ap₂, ◌∙◌, arith}
 use Rattle.std.specs.List.{zip, count_by, All}
-use Rattle.std.proofs.lemmas.List.{take_more, map-append, take_all, take-append-le, length-replicate, get_or-replicate}
+use Rattle.std.proofs.lemmas.List.{take_more, append_assoc, length-drop, get_or-drop, map-append, take_all, take-append-le, length-replicate, get_or-replicate}
 use Rattle.std.proofs.lemmas.Option.{slice_get-get_or, get_or_from_slice_get}
 use Rattle.std.proofs.lemmas.Slice.Zip.{firsts-zip, seconds-zip, get_or-zip}
 use Rattle.col_arrays.specs.Items.{item_of, stored, presence, all_present, nulls}
@@ -130,3 +130,15 @@ taken_present n (i ∷ idxs) within =
     let here : i < n = within 0 0 (omega arith) in
     let found : slice_get (replicate n true) i ≡ Some true = slice_get-get_or (replicate n true) i true (rw length-replicate here) ∙ ap Some (get_or-replicate n i true true here) in
     ap₂ (λ item rest. item ∷ rest) (sym found) (taken_present n idxs (λ k d l. within (suc k) d (omega arith)))
+
+-- one more item of a list, where each default gives it
+more_of : {A : Type 0} (front ys new : List A) (i : ℕ) → i < length ys → ((d : A) → new ≡ (front ++ take i ys) ++ get_or ys i d ∷ []) → new ≡ front ++ take (i + 1) ys
+more_of front [] new i h next = absurd (omega arith)
+more_of front (y ∷ ys) new i h next = next y ∙ append_assoc front (take i (y ∷ ys)) (get_or (y ∷ ys) i y ∷ []) ∙ ap (λ more. front ++ more) (sym (take_more (y ∷ ys) i y h))
+
+-- one more item of another array, from a place on
+pub extended_more : {A : Type 0} (front old new source : List A) (start i len : ℕ) → start + len ≤ length source → i < len → old ≡ front ++ take i (drop start source)
+    → ((d : A) → new ≡ old ++ get_or source (start + i) d ∷ []) → new ≡ front ++ take (i + 1) (drop start source)
+extended_more front old new source start i len h l so_far next =
+    more_of front (drop start source) new i (omega (arith, length-drop start source))
+    (λ d. next d ∙ ap₂ (λ some item. some ++ item ∷ []) so_far (sym (get_or-drop start source i d)))

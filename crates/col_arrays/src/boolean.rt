@@ -1,5 +1,5 @@
 //! Arrays of truth values, of which some may be null.
-ghost use Rattle.std.specs.Prelude.{◌≡◌, ◌<◌, [], ◌∷◌, ◌++◌, Bool, Some, true, false, length, map, OnOk, OnErr, IfOk, IfSome, MatchOption, option_and_then, slice_index_or, slice_get};
+ghost use Rattle.std.specs.Prelude.{◌≡◌, ◌<◌, ◌≤◌, ◌+◌, [], ◌∷◌, ◌++◌, Bool, Some, true, false, length, map, take, drop, OnOk, OnErr, IfOk, IfSome, MatchOption, option_and_then, slice_index_or, slice_get};
 ghost use Rattle.std.specs.List.{All};
 ghost use Rattle.col_arrays.specs.Items.{item_of, stored, presence, all_present, nulls, marked};
 
@@ -152,5 +152,17 @@ impl BooleanArray {
         ensures err { OnErr result (self.new ≡ self.old) }
     {
         self.push(source.stored.get(i), source.validity.get(i))
+    }
+
+    /// These items, and after them `len` items of another array from a place on.
+    pub fn extended(mut self, source: &Self, start: usize, len: usize) -> Result<Self, AllocError>
+        requires { start + len ≤ length source.now }
+        ensures { IfOk result (λ all. all ≡ self ++ take len (drop start source.now)) }
+    {
+        let _within = source.len();
+        for i in 0..len {
+            self.push_from(source, start + i)?;
+        }
+        Ok(self)
     }
 }
