@@ -1,5 +1,5 @@
 -- The columns of rows, side by side, are the rows again.
-use Rattle.std.proofs.Common.{◌≡◌, ◌≢◌, ◌<◌, ◌+◌, ℕ, zero, suc, List, [], ◌∷◌, ◌++◌, map, length, take, get_or, Some, slice_get, refl, sym, ap, ◌∙◌, arith, zero-add}
+use Rattle.std.proofs.Common.{◌≡◌, ◌+◌, ℕ, List, [], ◌∷◌, ◌++◌, map, length, take, get_or, Some, slice_get, refl, sym, ap, ◌∙◌, zero-add}
 use Rattle.std.specs.List.{All, range_with_len}
 use Rattle.std.proofs.lemmas.List.{map-append, take_more}
 use Rattle.std.proofs.lemmas.List.FromFn.{fill_by_all, map-range_with_len_more}
@@ -13,7 +13,8 @@ use Rattle.col_core.proofs.Rows.{transposed, map_agree_on}
 use Rattle.serde_json.specs.View.{items_view}
 use Rattle.serde_json.specs.declared.value.Value.{Value}
 use Rattle.join_request.specs.Json.{each}
-use Rattle.join_request.specs.Frames.{row_of_value, rows_with_columns, height_under}
+use Rattle.join_request.specs.Frames.{row_of_value, rows_with_columns}
+use Rattle.join_request.specs.Columns.{height_under}
 use Rattle.join_request.proofs.Rows.{each_length, widths_read, got}
 
 -- the first columns of rows

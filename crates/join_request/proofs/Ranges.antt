@@ -1,5 +1,5 @@
 -- Whole numbers in the range of a type.
-use Rattle.std.proofs.Common.{◌≡◌, ◌-◌, ◌^◌, ℕ, ℤ, pos, negsuc, ◌≤ℤ◌, ◌<ℤ◌, Some, FitsSigned, ap, arith}
+use Rattle.std.proofs.Common.{◌≡◌, ◌^◌, ℤ, pos, negsuc, ◌≤ℤ◌, ◌<ℤ◌, Some, FitsSigned, ap, arith}
 use Rattle.std.specs.Int.{FitsUnsigned, w8, w16, w32, w64, w128}
 use mir.Syntax.{Width}
 use mir.Val.{hbits, bits}

@@ -1,6 +1,6 @@
 -- Rows that are read, and the columns that are read of them.
-use Rattle.std.proofs.Common.{◌≡◌, ◌<◌, ◌+◌, ◌==◌, ◌&&◌, ℕ, zero, suc, Bool, true, false, List, [], ◌∷◌, ◌++◌, map, length, take, drop, get_or, add-one, drop-cons, append_assoc, Option, Some, None, IsSome, IsTrue, option_map, option_and_then, slice_get, refl, sym, ap, ◌∙◌, subst, arith, true≢false, inl, inr}
-use Rattle.std.specs.List.{All, range_with_len}
+use Rattle.std.proofs.Common.{◌≡◌, ◌<◌, ◌+◌, ◌&&◌, ℕ, zero, suc, Bool, true, false, List, [], ◌∷◌, ◌++◌, length, drop, get_or, add-one, drop-cons, append_assoc, Option, Some, None, IsSome, option_map, option_and_then, slice_get, refl, sym, ap, ◌∙◌, subst, arith, true≢false, inl, inr}
+use Rattle.std.specs.List.{All}
 use Rattle.std.proofs.lemmas.List.Elements.{All-nil, All-cons}
 use Rattle.std.proofs.lemmas.Bool.Decides.{nat_tests}
 use Rattle.serde_json.specs.Data.{Data, null, boolean, number, string, array, object, Items, no_items, item}
@@ -15,7 +15,8 @@ use Rattle.join_request.specs.Json.{each}
 use Rattle.join_request.specs.Refused.{Refuses}
 use Rattle.join_request.specs.declared.error.RequestError.{RequestError}
 use Rattle.join_request.specs.Leaves.{leaf_of_value}
-use Rattle.join_request.specs.Frames.{row_of_items, row_of_value, leaf_in, item_count, is_wide, are_wide, grown}
+use Rattle.join_request.specs.Frames.{row_of_items, row_of_value}
+use Rattle.join_request.specs.Columns.{leaf_in, item_count, is_wide, are_wide, grown}
 
 pub item_count_of : (vs : List Value) → item_count (items_view vs) ≡ length vs
 item_count_of [] = refl

@@ -3,6 +3,7 @@ pub mod Types
 pub mod Schemas
 pub mod Leaves
 pub mod Frames
+pub mod Columns
 pub mod Parts
 pub mod Filters
 pub mod Plans

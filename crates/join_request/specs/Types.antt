@@ -8,7 +8,7 @@ use Rattle.col_core.specs.declared.data_type.DataType.{DataType}
 use Rattle.col_core.specs.declared.data_type.DataType.TheVariants.{Boolean, Int8, Int16, Int32, Int64, UInt8, UInt16, UInt32, UInt64, Int128, Decimal, Date, Time, Datetime, Duration, String, Binary}
 use Rattle.join_request.specs.Json.{◌>>=◌, named}
 
--- the types without numbers in their names
+-- the types whose names have no numbers of their own
 abbrev pub named_types : List (List ℕ × DataType)
 named_types =
     (codes "Boolean", Boolean)
@@ -23,7 +23,7 @@ named_types =
     ∷ (codes "Binary", Binary)
     ∷ []
 
--- a whole number below 100 in decimal digits, without a leading zero
+-- a whole number below 100 in decimal digits, without a leading zero; 48 to 57 are the codes of `0` to `9`
 abbrev pub small_number : List ℕ → Option ℕ
 small_number (ones ∷ []) = if is_in_range 48 57 ones then Some (ones - 48) else None
 small_number (tens ∷ ones ∷ []) = if is_in_range 49 57 tens && is_in_range 48 57 ones then Some ((tens - 48) * 10 + (ones - 48)) else None

@@ -2,7 +2,8 @@
 ghost use Rattle.std.specs.Prelude.{◌≡◌, IfOk, IfErr, OnOk, Some, IsTrue, length, slice_get, option_map};
 ghost use Rattle.serde_json.specs.View.{view, items_view};
 ghost use Rattle.col_core.specs.Tables.{header};
-ghost use Rattle.join_request.specs.Frames.{row_of_value, frame_of_value, frames_of_value, frame_of_rows, leaf_in, is_wide, are_wide, height_under, grown};
+ghost use Rattle.join_request.specs.Frames.{row_of_value, frame_of_value, frames_of_value, frame_of_rows};
+ghost use Rattle.join_request.specs.Columns.{leaf_in, is_wide, are_wide, height_under, grown};
 ghost use Rattle.join_request.specs.Json.{each};
 ghost use Rattle.join_request.specs.Refused.{Refuses};
 

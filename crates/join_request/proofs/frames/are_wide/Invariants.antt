@@ -1,6 +1,6 @@
 use Rattle.std.proofs.Common.{◌≡◌, drop}
 use Rattle.serde_json.specs.View.{items_view}
-use Rattle.join_request.specs.Frames.{are_wide}
+use Rattle.join_request.specs.Columns.{are_wide}
 use Rattle.join_request.proofs.frames.are_wide.Given as goal
 
 -- what is left decides

@@ -1,11 +1,12 @@
-use Rattle.std.proofs.Common.{◌≡◌, ℕ, length, map, take, Some, IsSome, slice_get, refl, sym, ap, ◌∙◌, subst, arith, below_more}
+use Rattle.std.proofs.Common.{◌≡◌, ℕ, length, Some, IsSome, slice_get, refl, sym, ap, ◌∙◌, subst, arith, below_more}
 use Rattle.std.proofs.lemmas.Result.{err_from_is_err_and}
 use Rattle.std.proofs.lemmas.List.Elements.{All-push}
 use Rattle.serde_json.specs.View.{items_view}
 use Rattle.col_core.specs.declared.schema.Field.{Field}
-use Rattle.col_core.specs.Tables.{Column, header, values_of}
+use Rattle.col_core.specs.Tables.{Column, values_of}
 use Rattle.join_request.specs.Json.{each}
-use Rattle.join_request.specs.Frames.{row_of_value, leaf_in, frame_of_rows}
+use Rattle.join_request.specs.Frames.{row_of_value}
+use Rattle.join_request.specs.Columns.{leaf_in}
 use Rattle.join_request.proofs.Rows.{refused_column, column_read, some_rows, some_value, each_length, got}
 use Rattle.join_request.proofs.Columns.{columns_to, headers_more, values_more, frame_read}
 use Rattle.join_request.proofs.frames.frame_of_rows.Goals as goal

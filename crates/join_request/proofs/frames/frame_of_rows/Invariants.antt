@@ -4,7 +4,8 @@ use Rattle.serde_json.specs.View.{items_view}
 use Rattle.col_core.specs.declared.schema.Field.{Field}
 use Rattle.col_core.specs.Tables.{Row, header, values_of}
 use Rattle.join_request.specs.Json.{each}
-use Rattle.join_request.specs.Frames.{row_of_value, leaf_in}
+use Rattle.join_request.specs.Frames.{row_of_value}
+use Rattle.join_request.specs.Columns.{leaf_in}
 use Rattle.join_request.proofs.Columns.{columns_to}
 use Rattle.join_request.proofs.frames.frame_of_rows.Given as goal
 

@@ -1,5 +1,5 @@
 use Rattle.std.proofs.Common.{◌∙◌}
-use Rattle.join_request.specs.Frames.{leaf_in}
+use Rattle.join_request.specs.Columns.{leaf_in}
 use Rattle.join_request.proofs.Rows.{one_more}
 use Rattle.join_request.proofs.frames.read_column.Goals as goal
 

@@ -1,7 +1,7 @@
 use Rattle.std.proofs.Common.{◌≡◌, ◌++◌, drop, option_map}
 use Rattle.serde_json.specs.View.{items_view}
 use Rattle.join_request.specs.Json.{each}
-use Rattle.join_request.specs.Frames.{leaf_in}
+use Rattle.join_request.specs.Columns.{leaf_in}
 use Rattle.join_request.proofs.frames.read_column.Given as goal
 
 -- what is left decides
