@@ -1,10 +1,14 @@
-//! Frames and queries for the tests, and the numbers of frames.
-ghost use Rattle.col_core.specs.declared.data_type.DataType.TheVariants.{Int64};
+//! Frames and queries for the tests, and the texts of frames.
+ghost use Rattle.std.specs.Prelude.{IfOk};
+ghost use Rattle.col_core.specs.declared.data_type.DataType.TheVariants.{Int64, String};
 ghost use Rattle.col_core.specs.Values.{Fits};
 
-use col_core::{ColumnBuilder, DataType, Field, Frame, Leaf, List, Name, Schema, Series};
-use join_engine::{ColumnRef, Plan, Query, Reduction, ReductionKind, Side};
+use col_core::{Blob, ColumnBuilder, DataType, Field, Frame, Leaf, List, Name, Schema, Series};
+use join_engine::{
+    ColumnRef, Filter, FilterOp, Operand, Plan, Query, Reduction, ReductionKind, Side,
+};
 use std::alloc::Global;
+use std::str::from_utf8;
 use std::test::Fail;
 
 fn whole_leaf(value: Option<i64>) -> Leaf
@@ -24,7 +28,21 @@ fn whole_column(alloc: Global, name: &str, values: &[Option<i64>]) -> Result<Ser
     Ok(built.finish(alloc, Name::new(alloc, name)?)?)
 }
 
-pub fn schema(alloc: Global, fields: &[(&str, DataType)]) -> Result<Schema, Fail> {
+fn text_leaf(alloc: Global, text: &str) -> Result<Leaf, Fail>
+    ensures { IfOk result (λ v. Fits String v) }
+{
+    Ok(Leaf::Bytes(Blob::new(alloc, text.as_bytes())?))
+}
+
+fn text_column(alloc: Global, name: &str, values: &[&str]) -> Result<Series, Fail> {
+    let mut built = ColumnBuilder::new(alloc, DataType::String);
+    for value in values {
+        built.push_leaf(&text_leaf(alloc, *value)?)?;
+    }
+    Ok(built.finish(alloc, Name::new(alloc, name)?)?)
+}
+
+fn schema(alloc: Global, fields: &[(&str, DataType)]) -> Result<Schema, Fail> {
     let mut list = Vec::new(alloc);
     for (name, dtype) in fields {
         list.push(Field {
@@ -35,17 +53,25 @@ pub fn schema(alloc: Global, fields: &[(&str, DataType)]) -> Result<Schema, Fail
     Ok(Schema::from_fields(list))
 }
 
-/// A frame of two columns of whole numbers.
-pub fn numbers(
+/// A frame of customers, who may have no number.
+pub fn customers(alloc: Global, ids: &[Option<i64>], names: &[&str]) -> Result<Frame, Fail> {
+    let mut columns = Vec::new(alloc);
+    columns.push(whole_column(alloc, "id", ids)?)?;
+    columns.push(text_column(alloc, "name", names)?)?;
+    let fields = [("id", DataType::Int64), ("name", DataType::String)];
+    Frame::new(alloc, schema(alloc, &fields)?, columns).map_err(|_| Fail::from("frame"))
+}
+
+/// A frame of orders.
+pub fn orders(
     alloc: Global,
-    names: [&str; 2],
-    first: &[Option<i64>],
-    second: &[Option<i64>],
+    customers: &[Option<i64>],
+    amounts: &[Option<i64>],
 ) -> Result<Frame, Fail> {
     let mut columns = Vec::new(alloc);
-    columns.push(whole_column(alloc, names[0], first)?)?;
-    columns.push(whole_column(alloc, names[1], second)?)?;
-    let fields = [(names[0], DataType::Int64), (names[1], DataType::Int64)];
+    columns.push(whole_column(alloc, "cust", customers)?)?;
+    columns.push(whole_column(alloc, "amt", amounts)?)?;
+    let fields = [("cust", DataType::Int64), ("amt", DataType::Int64)];
     Frame::new(alloc, schema(alloc, &fields)?, columns).map_err(|_| Fail::from("frame"))
 }
 
@@ -73,42 +99,103 @@ fn column(alloc: Global, side: Side, name: &str) -> Result<ColumnRef, Fail> {
     })
 }
 
-/// Joins `k` with `k`, groups by `build.g` and sums `probe.v`.
+fn reductions(alloc: Global, kind: ReductionKind, name: &str) -> Result<List<Reduction>, Fail> {
+    let mut list = Vec::new(alloc);
+    list.push(Reduction {
+        kind,
+        column: column(alloc, Side::Probe, name)?,
+    })?;
+    Ok(List::from_vec(list))
+}
+
+fn probe_schema(alloc: Global, amount: DataType) -> Result<Schema, Fail> {
+    schema(alloc, &[("cust", DataType::Int64), ("amt", amount)])
+}
+
+/// The orders of each customer's name, added up.
 pub fn query(alloc: Global) -> Result<Query, Fail> {
     let mut group_keys = Vec::new(alloc);
-    group_keys.push(column(alloc, Side::Build, "g")?)?;
-    let mut reductions = Vec::new(alloc);
-    reductions.push(Reduction {
-        kind: ReductionKind::Sum,
-        column: column(alloc, Side::Probe, "v")?,
-    })?;
+    group_keys.push(column(alloc, Side::Build, "name")?)?;
     Ok(Query {
-        build_schema: schema(alloc, &[("k", DataType::Int64), ("g", DataType::Int64)])?,
-        probe_schema: schema(alloc, &[("k", DataType::Int64), ("v", DataType::Int64)])?,
-        build_keys: names(alloc, "k")?,
-        probe_keys: names(alloc, "k")?,
+        build_schema: schema(
+            alloc,
+            &[("id", DataType::Int64), ("name", DataType::String)],
+        )?,
+        probe_schema: probe_schema(alloc, DataType::Int64)?,
+        build_keys: names(alloc, "id")?,
+        probe_keys: names(alloc, "cust")?,
         null_equal: false,
         keep_probe: false,
         keep_build: false,
         filter: None,
         group_keys: List::from_vec(group_keys),
-        reductions: List::from_vec(reductions),
+        reductions: reductions(alloc, ReductionKind::Sum, "amt")?,
         plan: PLAN,
     })
 }
 
-/// The numbers of a frame, a row after the other; a null is `None`.
-pub fn numbers_of(alloc: Global, frame: &Frame) -> Result<Vec<Option<i128>>, Fail> {
-    let mut all = Vec::new(alloc);
+// Whether the name is the name.
+fn name_filter(alloc: Global) -> Result<Filter, Fail> {
+    Ok(Filter {
+        op: FilterOp::Eq,
+        left: column(alloc, Side::Build, "name")?,
+        right: Operand::Column(column(alloc, Side::Build, "name")?),
+    })
+}
+
+/// What differs in a query.
+#[derive(Clone, Copy, Debug)]
+pub enum Change {
+    Nothing,
+    NoGroup,
+    BuildKey(&'static str),
+    Sum(&'static str),
+    Least,
+    AmountType(DataType),
+    NameFilter,
+    NullEqual,
+    KeepProbe,
+    KeepBuild,
+    Plan(Plan),
+}
+
+/// Changes a query.
+pub fn make_change(alloc: Global, query: &mut Query, change: Change) -> Result<(), Fail> {
+    match change {
+        Change::Nothing => {}
+        Change::NoGroup => query.group_keys = List::new(alloc),
+        Change::BuildKey(name) => query.build_keys = names(alloc, name)?,
+        Change::Sum(name) => query.reductions = reductions(alloc, ReductionKind::Sum, name)?,
+        Change::Least => query.reductions = reductions(alloc, ReductionKind::Min, "amt")?,
+        Change::AmountType(dtype) => query.probe_schema = probe_schema(alloc, dtype)?,
+        Change::NameFilter => query.filter = Some(name_filter(alloc)?),
+        Change::NullEqual => query.null_equal = true,
+        Change::KeepProbe => query.keep_probe = true,
+        Change::KeepBuild => query.keep_build = true,
+        Change::Plan(plan) => query.plan = plan,
+    }
+    Ok(())
+}
+
+fn leaf_text(alloc: Global, leaf: &Leaf) -> Result<String, Fail> {
+    match leaf {
+        Leaf::Whole(number) => Ok(format!(in alloc; "{number}")?),
+        Leaf::Bytes(bytes) => Ok(String::from_str(alloc, from_utf8(bytes.as_slice())?)?),
+        _ => Ok(String::from_str(alloc, "null")?),
+    }
+}
+
+/// The values of a frame, each before a comma, and each row before a semicolon.
+pub fn frame_text(alloc: Global, frame: &Frame) -> Result<String, Fail> {
+    let mut text = String::new(alloc);
     for i in 0..frame.height() {
         for column in frame.columns() {
             if i < column.len() {
-                all.push(match column.leaf(alloc, i)? {
-                    Leaf::Whole(number) => Some(number),
-                    _ => None,
-                })?;
+                text.push_str(leaf_text(alloc, &column.leaf(alloc, i)?)?.as_str())?;
+                text.push_str(",")?;
             }
         }
+        text.push_str(";")?;
     }
-    Ok(all)
+    Ok(text)
 }
