@@ -1,8 +1,8 @@
 -- What a query has for which there is no refusal before its rows are read.
-use Rattle.std.proofs.Common.{◌≡◌, ℕ, ◌^◌, ◌<◌, Bool, true, false, ◌||◌, not, List, [], ◌∷◌, length, get_or, Option, Some, None, is_some, refl, sym, arith}
-use Rattle.std.specs.Prelude.{IsSome, nat_le}
+use Rattle.std.proofs.Common.{◌≡◌, ℕ, Bool, true, false, ◌||◌, not, List, [], ◌∷◌, get_or, Option, Some, None, is_some, refl, sym, arith}
+use Rattle.std.specs.Prelude.{IsSome}
 use Rattle.std.specs.Option.{option_map, option_map_or}
-use Rattle.std.proofs.lemmas.Bool.{false≢true, leb-false}
+use Rattle.std.proofs.lemmas.Bool.{false≢true}
 use Rattle.std.proofs.lemmas.List.Elements.{All-cons, All-nil}
 use Rattle.col_core.specs.declared.schema.Field.{Field}
 use Rattle.col_core.specs.declared.data_type.DataType.{DataType}
@@ -14,7 +14,6 @@ use Rattle.join_model.specs.declared.error.QueryError.{QueryError}
 use Rattle.join_model.specs.declared.error.QueryError.TheVariants.{NoKeyColumns, UnknownColumn, SchemaMismatch, UnsupportedReduction, UnsupportedFilter, BadPlan, TooLarge, NotBuilt}
 use Rattle.join_model.specs.declared.query.Query.{Query}
 use Rattle.join_model.specs.declared.query.ColumnRef.{ColumnRef}
-use Rattle.join_model.specs.Joined.{rows_of}
 use Rattle.join_model.specs.Filtered.{schema_of}
 use Rattle.std.specs.Cmp.Lexicographic.{pointwise}
 use Rattle.col_core.specs.Schemas.{dtype_eq}
@@ -45,15 +44,7 @@ all_have schema (t ∷ frames) h =
     let halves = either (not (schema_eq t.schema schema)) (has_other_frame schema frames) h in
     All-cons (λ (x : Table). x.schema ≡ schema) t frames ((schema_eq-Decides t.schema schema).0 (not_false (schema_eq t.schema schema) halves.0)) (all_have schema frames halves.1)
 
--- a side that is not too large
-pub few_frames : (frames : List Table) → is_too_large frames ≡ false → length frames < 2 ^ 31
-few_frames frames h = leb-false 2147483648 (length frames) (either (nat_le 2147483648 (length frames)) (nat_le 2147483648 (length (rows_of frames))) h).0
-
-pub few_rows : (frames : List Table) → is_too_large frames ≡ false → length (rows_of frames) < 2 ^ 31
-few_rows frames h = leb-false 2147483648 (length (rows_of frames)) (either (nat_le 2147483648 (length frames)) (nat_le 2147483648 (length (rows_of frames))) h).1
-
-pub ruleset few = (few_frames, few_rows)
-
+-- a column whose type is none that stands for a missing column
 known_int64 : (o : Option DataType) → (not (is_int64 (option_map_or (λ t. t) o Binary)) || false) ≡ false → is_some o ≡ true
 known_int64 None h = absurd (false≢true (sym h))
 known_int64 (Some t) h = refl
@@ -68,6 +59,7 @@ one_name schema [] e h = absurd (false≢true (sym e))
 one_name schema (x ∷ []) e h = known_int64 (type_named x schema) h
 one_name schema (x ∷ y ∷ names) e h = absurd (grind arith)
 
+-- a group key that is not empty, and is built
 one_column : (q : Query) (refs : List ColumnRef) → is_empty refs ≡ false → is_group_not_built q refs ≡ false → is_one_column q refs ≡ true
 one_column q [] e h = absurd (false≢true (sym e))
 one_column q (g ∷ []) e h = known_group (type_named g.name (schema_of q g.side)) h
@@ -77,6 +69,7 @@ absent : {X : Type 0} (o : Option X) → is_some o ≡ false → o ≡ None
 absent None h = refl
 absent (Some x) h = absurd (false≢true (sym h))
 
+-- a cause that there is not, and causes of which none is the first
 unmet : (b : Bool) (e : QueryError) → when b e ≡ None → b ≡ false
 unmet true e h = cc
 unmet false e h = refl
@@ -86,6 +79,7 @@ no_first None rest h = (refl, h)
 no_first (Some e) rest h = cc
 
 module _ (q : Query) (build probe : List Table) where
+  -- the causes from each of them on
   abbrev from_size : List (Option QueryError)
   from_size = when (is_too_large build || is_too_large probe) TooLarge ∷ []
 
@@ -107,6 +101,7 @@ module _ (q : Query) (build probe : List Table) where
   abbrev from_names : List (Option QueryError)
   from_names = option_map UnknownColumn (unknown_column q) ∷ from_schemas
 
+  -- what the engine needs of them
   pub record HasNoCause : Type 0 where
     pub keys : lacks_keys q ≡ false
     pub schemas : schemas_differ q build probe ≡ false
@@ -125,6 +120,7 @@ module _ (q : Query) (build probe : List Table) where
       let size = no_first (when (is_too_large build || is_too_large probe) TooLarge) [] built.1 in
       record { keys = unmet _ NoKeyColumns keys.0; schemas = unmet _ SchemaMismatch schemas.0; built = unmet _ NotBuilt built.0; sizes = unmet _ TooLarge size.0 }
 
+  -- what is not refused has the parts that the engine rests on, and sides that are not too large
   pub simple_parts : checked_refusal q build probe ≡ None → IsSimple q build probe
   simple_parts h =
       let none = no_cause h in

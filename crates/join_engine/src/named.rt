@@ -110,7 +110,7 @@ fn unknown_operand(query: &Query) -> Option<usize>
 }
 
 // The first of two places, where the second counts on from so many items.
-fn first_place(first: Option<usize>, before: usize, second: Option<usize>) -> Option<usize>
+fn first_of_two(first: Option<usize>, before: usize, second: Option<usize>) -> Option<usize>
     requires { IfSome second (λ i. before + i < 2 ^ 64) }
     ensures { result ≡ option_or first (option_map (λ i. before + i) second) }
 {
@@ -132,10 +132,10 @@ pub fn unknown_place(query: &Query) -> Option<usize>
     let keys = build.len() + probe.len();
     let operands = keys + filter_width(&query.filter);
     let place = unknown_name(query, Side::Build, build);
-    let place = first_place(place, build.len(), unknown_name(query, Side::Probe, probe));
-    let place = first_place(place, keys, unknown_operand(query));
-    let place = first_place(place, operands, unknown_group(query, groups));
-    first_place(
+    let place = first_of_two(place, build.len(), unknown_name(query, Side::Probe, probe));
+    let place = first_of_two(place, keys, unknown_operand(query));
+    let place = first_of_two(place, operands, unknown_group(query, groups));
+    first_of_two(
         place,
         operands + groups.len(),
         unknown_reduction(query, query.reductions.as_slice()),

@@ -64,7 +64,7 @@ repeats_name schema = has_repeat (λ f g. bytes_eq f.name g.name) schema
 abbrev pub has_other_frame : List Field → List Table → Bool
 has_other_frame schema frames = list_any (λ frame. not (schema_eq frame.schema schema)) frames
 
--- the types of columns of a side, by their names
+-- the types of columns of a side, by their names; of one that it lacks, `Binary`
 abbrev pub types_named : List Field → List (List ℕ) → List DataType
 types_named schema names = map (λ name. option_map_or (λ t. t) (type_named name schema) Binary) names
 

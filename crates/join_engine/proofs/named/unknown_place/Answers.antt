@@ -5,10 +5,10 @@ use Rattle.join_engine.proofs.named.unknown_place.Goals as goal
 -- list by list
 pub returns : goal.returns
 returns c = rw (
-  c.first_place.ensures,
-  c.first_place-place-3.ensures,
-  c.first_place-place-2.ensures,
-  c.first_place-place.ensures,
+  c.first_of_two.ensures,
+  c.first_of_two-place-3.ensures,
+  c.first_of_two-place-2.ensures,
+  c.first_of_two-place.ensures,
   c.unknown_name-place.ensures.place,
   c.unknown_name.ensures.place,
   c.unknown_operand.ensures.place,
