@@ -1,6 +1,5 @@
-pub mod Zips
-pub mod Presence
-pub mod Offsets
+pub mod ItemLeaves
+pub mod Texts
 pub mod Leaves
 pub mod Rows
 pub mod Pointwise

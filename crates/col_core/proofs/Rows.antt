@@ -9,7 +9,7 @@ use Rattle.col_core.specs.declared.leaf.Leaf.{Leaf}
 use Rattle.col_core.specs.declared.leaf.Leaf.TheVariants as leaves
 use Rattle.col_core.specs.declared.schema.Field.{Field}
 use Rattle.col_core.specs.Values.{value_at}
-use Rattle.col_core.specs.Tables.{Row, row_at, rows_from, values_at, rows_at, column_of, Column, values_of, header, AreColumnsOf, taken, IsBuildable, AreWide}
+use Rattle.col_core.specs.Tables.{Row, row_at, rows_from, values_at, rows_at, column_of, Column, values_of, header, AreColumnsOf, taken, AreWide}
 
 -- a map agrees where its function does
 pub map_agree : {A B : Type 0} (f g : A → B) → ((a : A) → f a ≡ g a) → (xs : List A) → map f xs ≡ map g xs
@@ -49,11 +49,11 @@ columns_taken columns n rows places e inside =
     ap (rows_from (length places)) (map-map (λ (x : Column). x.values) (taken places) columns ∙ sym (map-map (λ (vs : List Leaf). values_at vs places) (λ (x : Column). x.values) columns))
     ∙ rows_taken n (values_of columns) places inside ∙ ap (λ (xs : List Row). rows_at xs places) (sym e)
 
--- rows one after the other
-pub rows_in_range : (rows : List Row) (start len : ℕ) → start + len ≤ length rows → rows_at rows (range_with_len start len) ≡ take len (drop start rows)
-rows_in_range rows start zero h = refl
-rows_in_range rows start (suc len) h =
-    ap (λ rest. get_or rows start [] ∷ rest) (rows_in_range rows (start + 1) len (omega arith)) ∙ sym (ap (take (suc len)) (drop_more rows start [] (omega arith)))
+-- items one after the other
+pub in_range : {X : Type 0} (xs : List X) (d : X) (start len : ℕ) → start + len ≤ length xs → map (λ i. get_or xs i d) (range_with_len start len) ≡ take len (drop start xs)
+in_range xs d start zero h = refl
+in_range xs d start (suc len) h =
+    ap (λ rest. get_or xs start d ∷ rest) (in_range xs d (start + 1) len (omega arith)) ∙ sym (ap (take (suc len)) (drop_more xs start d (omega arith)))
 
 pub range_within : (start len n : ℕ) → start + len ≤ n → All (λ i. i < n) (range_with_len start len)
 range_within start zero n h = All-nil (λ (i : ℕ). i < n)
@@ -78,13 +78,6 @@ field_of columns schema i c e h f = rw (← e) (along columns i h f)
     along [] i h f = absurd (omega arith)
     along (x ∷ cs) zero h f = cc
     along (x ∷ cs) (suc i) h f = along cs i (omega arith) f
-
--- a column that was found at a place has a type that is built, if each field has
-pub buildable_at : (columns : List Column) (schema : List Field) (i : ℕ) (c : Column) → map header columns ≡ schema → All (λ (f : Field). IsBuildable f.dtype) schema → i < length columns → c ≡ get_or columns i c → IsBuildable c.dtype
-buildable_at columns schema i c e all h f =
-    let same : get_or (map header columns) i (header c) ≡ header c = get_or-map header columns i c (header c) h ∙ ap header (sym f) in
-    let inside : i < length (map header columns) = rw (length-map columns header) h in
-    subst (λ (f : Field). IsBuildable f.dtype) same (All-get_or (λ (f : Field). IsBuildable f.dtype) (map header columns) i (header c) inside (subst (All (λ (f : Field). IsBuildable f.dtype)) (sym e) all))
 
 -- the values of columns at places stand under the same schema
 pub under_taken : (schema : List Field) (columns : List Column) (n : ℕ) (places : List ℕ) → AreColumnsOf schema columns n → All (λ i. i < n) places → AreColumnsOf schema (map (taken places) columns) (length places)

@@ -1,5 +1,8 @@
-pub mod Arrays
+pub use Rattle.col_arrays.specs.Bits
+pub use Rattle.col_arrays.specs.Items
+pub use Rattle.col_arrays.specs.Pieces
 pub mod Values
+pub mod Physical
 pub mod Tables
 pub mod Schemas
 pub mod Refusals

@@ -1,13 +1,16 @@
 -- Columns as lists of values, and tables as lists of rows.
-use Rattle.std.specs.Prelude.{◌≡◌, ◌<◌, ◌^◌, ℕ, Bool, true, false, IsTrue, List, [], ◌∷◌, map, length, slice_index_or}
+use Rattle.std.specs.Prelude.{◌≡◌, ◌<◌, ◌^◌, ℕ, pos, Bool, List, [], ◌∷◌, map, length, slice_index_or}
 use Rattle.std.specs.List.{flat_map, range_with_len, All}
 use Rattle.col_core.specs.declared.leaf.Leaf.{Leaf}
 use Rattle.col_core.specs.declared.data_type.DataType.{DataType}
 use Rattle.col_core.specs.declared.schema.Field.{Field}
 use Rattle.col_core.specs.declared.chunk.Chunk.{Chunk}
 use Rattle.col_core.specs.declared.chunk.Chunk.TheVariants as chunks
-use Rattle.col_core.specs.declared.data_type.DataType.TheVariants.{Int64, Time, Datetime, Duration, String, Binary}
-use Rattle.col_core.specs.Values.{value_at, Fits, IsText, whole_leaf, bytes_leaf}
+use Rattle.col_core.specs.declared.data_type.PhysicalType.{PhysicalType}
+use Rattle.col_core.specs.declared.data_type.PhysicalType.TheVariants as kept
+use Rattle.col_core.specs.declared.leaf.Leaf.TheVariants as leaves
+use Rattle.col_core.specs.Physical.{physical_of, physical_eq}
+use Rattle.col_core.specs.Values.{value_at, Fits, IsText, item_leaf, number_leaf}
 
 -- a column: its name, its type and its values
 pub record Column : Type 0 where
@@ -20,61 +23,44 @@ pub record Growing : Type 0 where
   pub dtype : DataType
   pub values : List Leaf
 
--- the types whose columns can be built: those that chunks of the two kinds keep
-abbrev pub IsBuildable : DataType → Type 0
-IsBuildable Int64 = Unit {0}
-IsBuildable Time = Unit {0}
-IsBuildable (Datetime u) = Unit {0}
-IsBuildable (Duration u) = Unit {0}
-IsBuildable String = Unit {0}
-IsBuildable Binary = Unit {0}
-IsBuildable _ = ⊥
-
 -- the values of a chunk
 abbrev pub chunk_leaves : Chunk → List Leaf
-chunk_leaves (chunks.I64 items) = map whole_leaf items
-chunk_leaves (chunks.Bytes items) = map bytes_leaf items
+chunk_leaves (chunks.Boolean items) = map (item_leaf (λ b. leaves.Bool b)) items
+chunk_leaves (chunks.I8 items) = map (number_leaf (λ z. z)) items
+chunk_leaves (chunks.I16 items) = map (number_leaf (λ z. z)) items
+chunk_leaves (chunks.I32 items) = map (number_leaf (λ z. z)) items
+chunk_leaves (chunks.I64 items) = map (number_leaf (λ z. z)) items
+chunk_leaves (chunks.I128 items) = map (number_leaf (λ z. z)) items
+chunk_leaves (chunks.U8 items) = map (number_leaf (λ n. pos n)) items
+chunk_leaves (chunks.U16 items) = map (number_leaf (λ n. pos n)) items
+chunk_leaves (chunks.U32 items) = map (number_leaf (λ n. pos n)) items
+chunk_leaves (chunks.U64 items) = map (number_leaf (λ n. pos n)) items
+chunk_leaves (chunks.Bytes items) = map (item_leaf (λ b. leaves.Bytes b)) items
+
+-- how the items of a chunk are kept
+abbrev pub chunk_physical : Chunk → PhysicalType
+chunk_physical (chunks.Boolean items) = kept.Boolean
+chunk_physical (chunks.I8 items) = kept.I8
+chunk_physical (chunks.I16 items) = kept.I16
+chunk_physical (chunks.I32 items) = kept.I32
+chunk_physical (chunks.I64 items) = kept.I64
+chunk_physical (chunks.I128 items) = kept.I128
+chunk_physical (chunks.U8 items) = kept.U8
+chunk_physical (chunks.U16 items) = kept.U16
+chunk_physical (chunks.U32 items) = kept.U32
+chunk_physical (chunks.U64 items) = kept.U64
+chunk_physical (chunks.Bytes items) = kept.Bytes
 
 -- the values of chunks, one chunk after the other
 abbrev pub leaves_of : List Chunk → List Leaf
 leaves_of all = flat_map chunk_leaves all
 
--- the number of items of a chunk
-abbrev pub chunk_len : Chunk → ℕ
-chunk_len c = length (chunk_leaves c)
-
--- the types whose values are kept as I64
-abbrev pub keeps_i64 : DataType → Bool
-keeps_i64 Int64 = true
-keeps_i64 Time = true
-keeps_i64 (Datetime u) = true
-keeps_i64 (Duration u) = true
-keeps_i64 _ = false
-
--- the types whose values are kept as Bytes
-abbrev pub keeps_bytes : DataType → Bool
-keeps_bytes String = true
-keeps_bytes Binary = true
-keeps_bytes _ = false
-
--- a chunk is of the physical kind of a type
+-- a chunk is kept as the values of a type are
 abbrev pub is_of_kind : DataType → Chunk → Bool
-is_of_kind t (chunks.I64 items) = keeps_i64 t
-is_of_kind t (chunks.Bytes items) = keeps_bytes t
+is_of_kind t c = physical_eq (physical_of t) (chunk_physical c)
 
 abbrev pub IsOfKind : DataType → Chunk → Type 0
-IsOfKind t c = IsTrue (is_of_kind t c)
-
--- a chunk takes a value that is null or of its kind
-abbrev pub Takes : Chunk → Leaf → Type 0
-Takes (chunks.I64 items) v = Fits Int64 v
-Takes (chunks.Bytes items) v = Fits Binary v
-
--- two chunks of one kind
-abbrev pub SameKind : Chunk → Chunk → Type 0
-SameKind (chunks.I64 a) (chunks.I64 b) = Unit {0}
-SameKind (chunks.Bytes a) (chunks.Bytes b) = Unit {0}
-SameKind _ _ = ⊥
+IsOfKind t c = physical_of t ≡ chunk_physical c
 
 -- what holds of a column's type and chunks
 pub record AreChunksOf (dtype : DataType) (all : List Chunk) : Type 0 where

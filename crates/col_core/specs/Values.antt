@@ -8,10 +8,6 @@ use Rattle.col_core.specs.declared.leaf.Leaf.TheVariants as leaves
 use Rattle.col_core.specs.declared.data_type.DataType.{DataType}
 use Rattle.col_core.specs.declared.data_type.DataType.TheVariants.{Boolean, Int8, Int16, Int32, Int64, UInt8, UInt16, UInt32, UInt64, Int128, Decimal, Date, Time, Datetime, Duration, String, Binary}
 
--- An item of an array is what is stored, and whether it is present.
-abbrev pub item_of : {T : Type 0} → T × Bool → Option T
-item_of (x, present) = cond present (Some x) None
-
 -- the whole numbers of a type
 abbrev pub IsWholeOf : DataType → ℤ → Type 0
 IsWholeOf Int8 z = FitsSigned w8 z
@@ -63,12 +59,13 @@ abbrev pub is_bad_text : Option (List ℕ) → Bool
 is_bad_text (Some b) = not (is_utf8 b)
 is_bad_text None = false
 
--- an item as a value
-abbrev pub whole_leaf : ℤ × Bool → Leaf
-whole_leaf (z, present) = cond present (leaves.Whole z) leaves.Null
+-- an item of an array as a value, given what its stored value is
+abbrev pub item_leaf : {T : Type 0} → (T → Leaf) → T × Bool → Leaf
+item_leaf leaf (x, present) = cond present (leaf x) leaves.Null
 
-abbrev pub bytes_leaf : List ℕ × Bool → Leaf
-bytes_leaf (b, present) = cond present (leaves.Bytes b) leaves.Null
+-- an item of an array of numbers as a value, given which whole number each is
+abbrev pub number_leaf : {T : Type 0} → (T → ℤ) → T × Bool → Leaf
+number_leaf whole item = item_leaf (λ x. leaves.Whole (whole x)) item
 
 -- the value at a place
 abbrev pub value_at : List Leaf → ℕ → Leaf

@@ -1,14 +1,11 @@
 //! Columns that grow.
 ghost use Rattle.std.specs.Prelude.{◌≡◌, ◌<◌, [], ◌∷◌, ◌++◌, length, OnOk, OnErr, IfOk};
-ghost use Rattle.std.specs.List.{All};
 ghost use Rattle.col_core.specs.Tables.{Column, Growing};
 ghost use Rattle.col_core.specs.Values.{value_at, Fits};
 
-use crate::binary::BinaryArray;
-use crate::chunk::{Chunk, keeps_i64};
+use crate::chunk::Chunk;
 use crate::data_type::DataType;
 use crate::leaf::Leaf;
-use crate::primitive::PrimitiveArray;
 use crate::series::Series;
 use crate::text::Name;
 use std::alloc::{AllocError, Global};
@@ -17,7 +14,6 @@ use std::marker::Model;
 /// A column that grows, in one chunk. Contracts see its type and its values so far.
 #[derive(Drop)]
 pub struct ColumnBuilder {
-    alloc: Global,
     dtype: DataType,
     chunk: Chunk,
 }
@@ -33,22 +29,13 @@ impl Model for ColumnBuilder {
 }
 
 impl ColumnBuilder {
-    ghost use Rattle.col_core.specs.Tables.{IsBuildable};
-
     /// An empty column of a type.
     pub fn new(alloc: Global, dtype: DataType) -> ColumnBuilder
-        requires { IsBuildable dtype }
         ensures { result ≡ record { dtype = dtype; values = [] } }
     {
-        let chunk = if keeps_i64(dtype) {
-            Chunk::I64(PrimitiveArray::new(alloc))
-        } else {
-            Chunk::Bytes(BinaryArray::new(alloc))
-        };
         ColumnBuilder {
-            alloc,
             dtype,
-            chunk,
+            chunk: Chunk::new(alloc, dtype.physical()),
         }
     }
 
@@ -72,29 +59,23 @@ impl ColumnBuilder {
 
     /// Appends the value at a place of a column of the same type. After `Err` the column is as it
     /// was.
+    #[tactic(auto, using(crate::proofs::Leaves::grows))]
     pub fn push_from(&mut self, source: &Series, i: usize) -> Result<(), AllocError>
         requires same_type { source.now.dtype ≡ self.old.dtype }
         requires in_bounds { i < length source.now.values }
         ensures ok { OnOk result (self.new ≡ record { dtype = self.old.dtype; values = self.old.values ++ value_at source.now.values i ∷ [] }) }
         ensures err { OnErr result (self.new ≡ self.old) }
     {
-        let value = source.leaf(self.alloc, i)?;
-        self.push_leaf(&value)
+        let (chunk, place) = source.chunk_at(i);
+        self.chunk.push_from(chunk, place)?;
+        Ok(())
     }
 
     /// The column, in one chunk.
-    #[tactic(auto, using(crate::proofs::Leaves::one_chunk))]
     pub fn finish(self, alloc: Global, name: Name) -> Result<Series, AllocError>
         ensures { IfOk result (λ s. s ≡ record { name = name; dtype = self.dtype; values = self.values }) }
     {
-        let _count = self.chunk.len();
-        let mut chunks = Vec::new(alloc);
-        let ColumnBuilder {
-            alloc: _,
-            dtype,
-            chunk,
-        } = self;
-        chunks.push(chunk)?;
-        Ok(Series::from_chunks(name, dtype, chunks))
+        let ColumnBuilder { dtype, chunk } = self;
+        Series::from_chunk(alloc, name, dtype, chunk)
     }
 }

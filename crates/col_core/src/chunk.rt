@@ -1,67 +1,160 @@
 //! The pieces of a column.
-ghost use Rattle.std.specs.Prelude.{◌≡◌, ◌<◌, [], ◌∷◌, ◌++◌, map, not, length, OnOk, OnErr, IfOk, option_copied};
-ghost use Rattle.std.specs.List.{count_by, list_any};
-ghost use Rattle.col_core.specs.declared.data_type.DataType.TheVariants as types;
-ghost use Rattle.col_core.specs.Tables.{chunk_leaves, is_of_kind, keeps_i64, keeps_bytes, Takes, SameKind};
-ghost use Rattle.col_core.specs.Values.{value_at, is_null, is_text, is_bad_text, bytes_leaf};
+ghost use Rattle.std.specs.Prelude.{◌≡◌, ◌<◌, ◌≤◌, ◌+◌, [], ◌∷◌, ◌++◌, not, take, drop, length, OnOk, OnErr, IfOk};
+ghost use Rattle.std.specs.List.{All, count_by, list_any};
+ghost use Rattle.col_core.specs.Physical.{IsKept};
+ghost use Rattle.col_core.specs.Tables.{chunk_leaves, chunk_physical, is_of_kind, values_at};
+ghost use Rattle.col_core.specs.Values.{value_at, is_null, is_text};
 
-use crate::binary::BinaryArray;
-use crate::data_type::{DataType, same_type};
+use crate::data_type::{DataType, PhysicalType, same_type};
+use crate::items::{ValueArray, has_bad_text};
 use crate::leaf::Leaf;
-use crate::primitive::PrimitiveArray;
-use crate::text::Blob;
+use col_arrays::{BinaryArray, BooleanArray, IdxSize, PrimitiveArray};
 use std::alloc::{AllocError, Global};
-use std::str::from_utf8;
 
-/// A piece of a column: an array of one physical kind. Contracts see the values of its items.
+/// A piece of a column: an array of one physical type. Contracts see the values of its items.
 #[derive(Debug, Drop)]
 pub enum Chunk {
+    /// The values of `Boolean`.
+    Boolean(BooleanArray),
+    /// The values of `Int8`.
+    I8(PrimitiveArray<i8>),
+    /// The values of `Int16`.
+    I16(PrimitiveArray<i16>),
+    /// The values of `Int32` and `Date`.
+    I32(PrimitiveArray<i32>),
     /// The values of `Int64`, `Time`, `Datetime` and `Duration`.
     I64(PrimitiveArray<i64>),
+    /// The values of `Int128` and `Decimal`.
+    I128(PrimitiveArray<i128>),
+    /// The values of `UInt8`.
+    U8(PrimitiveArray<u8>),
+    /// The values of `UInt16`.
+    U16(PrimitiveArray<u16>),
+    /// The values of `UInt32`.
+    U32(PrimitiveArray<u32>),
+    /// The values of `UInt64`.
+    U64(PrimitiveArray<u64>),
     /// The values of `String` and `Binary`.
     Bytes(BinaryArray),
 }
 
+/// The same for the array of a chunk, whichever it is.
+macro_rules! with_array {
+    ($chunk:expr, $items:ident => $body:expr) => {
+        match $chunk {
+            Chunk::Boolean($items) => $body,
+            Chunk::I8($items) => $body,
+            Chunk::I16($items) => $body,
+            Chunk::I32($items) => $body,
+            Chunk::I64($items) => $body,
+            Chunk::I128($items) => $body,
+            Chunk::U8($items) => $body,
+            Chunk::U16($items) => $body,
+            Chunk::U32($items) => $body,
+            Chunk::U64($items) => $body,
+            Chunk::Bytes($items) => $body,
+        }
+    };
+}
+
+/// A chunk of what is made of the array of a chunk, whichever it is.
+macro_rules! map_array {
+    ($chunk:expr, $items:ident => $body:expr) => {
+        match $chunk {
+            Chunk::Boolean($items) => Ok(Chunk::Boolean($body?)),
+            Chunk::I8($items) => Ok(Chunk::I8($body?)),
+            Chunk::I16($items) => Ok(Chunk::I16($body?)),
+            Chunk::I32($items) => Ok(Chunk::I32($body?)),
+            Chunk::I64($items) => Ok(Chunk::I64($body?)),
+            Chunk::I128($items) => Ok(Chunk::I128($body?)),
+            Chunk::U8($items) => Ok(Chunk::U8($body?)),
+            Chunk::U16($items) => Ok(Chunk::U16($body?)),
+            Chunk::U32($items) => Ok(Chunk::U32($body?)),
+            Chunk::U64($items) => Ok(Chunk::U64($body?)),
+            Chunk::Bytes($items) => Ok(Chunk::Bytes($body?)),
+        }
+    };
+}
+
+/// The array of a chunk of the same physical type as one that is an array of this kind.
+macro_rules! array_of {
+    ($chunk:expr, $kind:path) => {
+        match $chunk {
+            $kind(items) => items,
+            _ => unreachable!(),
+        }
+    };
+}
+
 impl Chunk {
+    /// A chunk of a physical type, without items yet.
+    pub fn new(alloc: Global, physical: PhysicalType) -> Chunk
+        ensures kind { chunk_physical result ≡ physical }
+        ensures empty { chunk_leaves result ≡ [] }
+    {
+        match physical {
+            PhysicalType::Boolean => Chunk::Boolean(BooleanArray::new(alloc)),
+            PhysicalType::I8 => Chunk::I8(PrimitiveArray::new(alloc)),
+            PhysicalType::I16 => Chunk::I16(PrimitiveArray::new(alloc)),
+            PhysicalType::I32 => Chunk::I32(PrimitiveArray::new(alloc)),
+            PhysicalType::I64 => Chunk::I64(PrimitiveArray::new(alloc)),
+            PhysicalType::I128 => Chunk::I128(PrimitiveArray::new(alloc)),
+            PhysicalType::U8 => Chunk::U8(PrimitiveArray::new(alloc)),
+            PhysicalType::U16 => Chunk::U16(PrimitiveArray::new(alloc)),
+            PhysicalType::U32 => Chunk::U32(PrimitiveArray::new(alloc)),
+            PhysicalType::U64 => Chunk::U64(PrimitiveArray::new(alloc)),
+            PhysicalType::Bytes => Chunk::Bytes(BinaryArray::new(alloc)),
+        }
+    }
+
+    /// How the items are kept.
+    pub fn physical(&self) -> PhysicalType
+        ensures { result ≡ chunk_physical self.now }
+    {
+        match self {
+            Chunk::Boolean(_) => PhysicalType::Boolean,
+            Chunk::I8(_) => PhysicalType::I8,
+            Chunk::I16(_) => PhysicalType::I16,
+            Chunk::I32(_) => PhysicalType::I32,
+            Chunk::I64(_) => PhysicalType::I64,
+            Chunk::I128(_) => PhysicalType::I128,
+            Chunk::U8(_) => PhysicalType::U8,
+            Chunk::U16(_) => PhysicalType::U16,
+            Chunk::U32(_) => PhysicalType::U32,
+            Chunk::U64(_) => PhysicalType::U64,
+            Chunk::Bytes(_) => PhysicalType::Bytes,
+        }
+    }
+
+    /// Whether the values of a type are kept as the items are.
+    pub fn is_of_kind(&self, dtype: DataType) -> bool
+        ensures { result ≡ is_of_kind dtype self.now }
+    {
+        dtype.physical() == self.physical()
+    }
+
     /// The number of items, nulls among them.
     pub fn len(&self) -> usize
         ensures { result ≡ length (chunk_leaves self.now) }
     {
-        match self {
-            Chunk::I64(items) => items.len(),
-            Chunk::Bytes(items) => items.len(),
-        }
+        with_array!(self, items => items.count())
     }
 
     /// The number of nulls.
-    #[tactic(auto, using(crate::proofs::Leaves::counts))]
     pub fn null_count(&self) -> usize
         ensures { result ≡ count_by is_null (chunk_leaves self.now) }
     {
-        match self {
-            Chunk::I64(items) => items.null_count(),
-            Chunk::Bytes(items) => items.null_count(),
-        }
+        with_array!(self, items => items.count_null())
     }
 
-    /// Whether the chunk is of the physical kind of a type.
-    pub fn is_of_kind(&self, dtype: DataType) -> bool
-        ensures { result ≡ is_of_kind dtype self.now }
-    {
-        match self {
-            Chunk::I64(_) => keeps_i64(dtype),
-            Chunk::Bytes(_) => keeps_bytes(dtype),
-        }
-    }
-
-    #[tactic(auto, using(crate::proofs::Leaves::whole_texts))]
     /// Whether some present item is no text, where the type is one of texts.
+    #[tactic(auto, using(crate::proofs::Texts::whole_texts))]
     pub(crate) fn has_bad_text(&self, dtype: DataType) -> bool
         ensures { result ≡ list_any (λ value. not (is_text dtype value)) (chunk_leaves self.now) }
     {
         match self {
-            Chunk::I64(_) => false,
             Chunk::Bytes(items) => same_type(dtype, DataType::String) && has_bad_text(items),
+            _ => false,
         }
     }
 
@@ -69,77 +162,117 @@ impl Chunk {
     pub fn leaf(&self, alloc: Global, i: usize) -> Result<Leaf, AllocError>
         requires { i < length (chunk_leaves self.now) }
         ensures value { IfOk result (λ v. v ≡ value_at (chunk_leaves self.now) i) }
-        ensures taken { IfOk result (λ v. Takes self.now v) }
+        ensures kept { IfOk result (λ v. IsKept (chunk_physical self.now) v) }
     {
-        match self {
-            Chunk::I64(items) => match items.get(i) {
-                Some(n) => Ok(Leaf::Whole(n as i128)),
-                None => Ok(Leaf::Null),
-            },
-            Chunk::Bytes(items) => match items.get(i) {
-                Some(b) => Ok(Leaf::Bytes(Blob::new(alloc, b)?)),
-                None => Ok(Leaf::Null),
-            },
-        }
+        with_array!(self, items => items.value_at(alloc, i))
     }
 
     /// Appends a value. After `Err` the values are as they were.
     pub fn push(&mut self, value: &Leaf) -> Result<(), AllocError>
-        requires { Takes self.old value.now }
+        requires { IsKept (chunk_physical self.old) value.now }
         ensures ok { OnOk result (chunk_leaves self.new ≡ chunk_leaves self.old ++ value.now ∷ []) }
-        ensures err { OnErr result (chunk_leaves self.new ≡ chunk_leaves self.old) }
-        ensures kind { SameKind self.old self.new }
+        ensures err { OnErr result (self.new ≡ self.old) }
+        ensures kind { chunk_physical self.new ≡ chunk_physical self.old }
+    {
+        with_array!(self, items => items.push_value(value))
+    }
+
+    /// Appends the item at a place of a chunk of the same physical type. After `Err` the values are
+    /// as they were.
+    pub fn push_from(&mut self, source: &Chunk, i: usize) -> Result<(), AllocError>
+        requires same_kind { chunk_physical source.now ≡ chunk_physical self.old }
+        requires in_bounds { i < length (chunk_leaves source.now) }
+        ensures ok { OnOk result (chunk_leaves self.new ≡ chunk_leaves self.old ++ value_at (chunk_leaves source.now) i ∷ []) }
+        ensures err { OnErr result (self.new ≡ self.old) }
+        ensures kind { chunk_physical self.new ≡ chunk_physical self.old }
     {
         match self {
-            Chunk::I64(items) => match value {
-                Leaf::Whole(z) => items.push(*z as i64, true),
-                _ => items.push(0, false),
-            },
-            Chunk::Bytes(items) => match value {
-                Leaf::Bytes(b) => items.push(b.as_slice(), true),
-                _ => items.push(&[], false),
-            },
+            Chunk::Boolean(items) => items.push_item(array_of!(source, Chunk::Boolean), i),
+            Chunk::I8(items) => items.push_item(array_of!(source, Chunk::I8), i),
+            Chunk::I16(items) => items.push_item(array_of!(source, Chunk::I16), i),
+            Chunk::I32(items) => items.push_item(array_of!(source, Chunk::I32), i),
+            Chunk::I64(items) => items.push_item(array_of!(source, Chunk::I64), i),
+            Chunk::I128(items) => items.push_item(array_of!(source, Chunk::I128), i),
+            Chunk::U8(items) => items.push_item(array_of!(source, Chunk::U8), i),
+            Chunk::U16(items) => items.push_item(array_of!(source, Chunk::U16), i),
+            Chunk::U32(items) => items.push_item(array_of!(source, Chunk::U32), i),
+            Chunk::U64(items) => items.push_item(array_of!(source, Chunk::U64), i),
+            Chunk::Bytes(items) => items.push_item(array_of!(source, Chunk::Bytes), i),
         }
     }
-}
 
-/// Whether the values of a type are kept as `I64`.
-pub(crate) fn keeps_i64(dtype: DataType) -> bool
-    ensures { result ≡ keeps_i64 dtype }
-{
-    matches!(
-        dtype,
-        DataType::Int64 | DataType::Time | DataType::Datetime(_) | DataType::Duration(_)
-    )
-}
-
-/// Whether the values of a type are kept as `Bytes`.
-fn keeps_bytes(dtype: DataType) -> bool
-    ensures { result ≡ keeps_bytes dtype }
-{
-    matches!(dtype, DataType::String | DataType::Binary)
-}
-
-/// Whether some present item is no text.
-#[tactic(auto, using(crate::proofs::Leaves::texts))]
-fn has_bad_text(items: &BinaryArray) -> bool
-    ensures { result ≡ list_any (λ value. not (is_text types.String value)) (map bytes_leaf items.now) }
-{
-    for i in 0..items.len() {
-        if is_bad_text(items.get(i)) {
-            return true;
-        }
+    /// The values at indexes, in the order of the indexes.
+    pub fn take(&self, alloc: Global, idxs: &[IdxSize]) -> Result<Chunk, AllocError>
+        requires { All (λ i. i < length (chunk_leaves self.now)) idxs.now }
+        ensures values { IfOk result (λ taken. chunk_leaves taken ≡ values_at (chunk_leaves self.now) idxs.now) }
+        ensures kind { IfOk result (λ taken. chunk_physical taken ≡ chunk_physical self.now) }
+    {
+        map_array!(self, items => items.take_items(alloc, idxs))
     }
-    false
-}
 
-/// Whether an item is present and no text.
-#[tactic(auto, using(crate::proofs::Leaves::texts))]
-fn is_bad_text(item: Option<&[u8]>) -> bool
-    ensures { result ≡ is_bad_text (option_copied item.entry) }
-{
-    match item {
-        Some(bytes) => from_utf8(bytes).is_err(),
-        None => false,
+    /// The values, and after them `len` values of a chunk of the same physical type, from `start` on.
+    pub fn extended(self, source: &Chunk, start: usize, len: usize) -> Result<Chunk, AllocError>
+        requires same_kind { chunk_physical source.now ≡ chunk_physical self }
+        requires in_bounds { start + len ≤ length (chunk_leaves source.now) }
+        ensures values { IfOk result (λ all. chunk_leaves all ≡ chunk_leaves self ++ take len (drop start (chunk_leaves source.now))) }
+        ensures kind { IfOk result (λ all. chunk_physical all ≡ chunk_physical self) }
+    {
+        match self {
+            Chunk::Boolean(items) => Ok(Chunk::Boolean(items.extend_items(
+                array_of!(source, Chunk::Boolean),
+                start,
+                len,
+            )?)),
+            Chunk::I8(items) => Ok(Chunk::I8(items.extend_items(
+                array_of!(source, Chunk::I8),
+                start,
+                len,
+            )?)),
+            Chunk::I16(items) => Ok(Chunk::I16(items.extend_items(
+                array_of!(source, Chunk::I16),
+                start,
+                len,
+            )?)),
+            Chunk::I32(items) => Ok(Chunk::I32(items.extend_items(
+                array_of!(source, Chunk::I32),
+                start,
+                len,
+            )?)),
+            Chunk::I64(items) => Ok(Chunk::I64(items.extend_items(
+                array_of!(source, Chunk::I64),
+                start,
+                len,
+            )?)),
+            Chunk::I128(items) => Ok(Chunk::I128(items.extend_items(
+                array_of!(source, Chunk::I128),
+                start,
+                len,
+            )?)),
+            Chunk::U8(items) => Ok(Chunk::U8(items.extend_items(
+                array_of!(source, Chunk::U8),
+                start,
+                len,
+            )?)),
+            Chunk::U16(items) => Ok(Chunk::U16(items.extend_items(
+                array_of!(source, Chunk::U16),
+                start,
+                len,
+            )?)),
+            Chunk::U32(items) => Ok(Chunk::U32(items.extend_items(
+                array_of!(source, Chunk::U32),
+                start,
+                len,
+            )?)),
+            Chunk::U64(items) => Ok(Chunk::U64(items.extend_items(
+                array_of!(source, Chunk::U64),
+                start,
+                len,
+            )?)),
+            Chunk::Bytes(items) => Ok(Chunk::Bytes(items.extend_items(
+                array_of!(source, Chunk::Bytes),
+                start,
+                len,
+            )?)),
+        }
     }
 }

@@ -1,6 +1,7 @@
 //! The types of columns.
 ghost use Rattle.std.specs.Prelude.{◌≡◌};
 ghost use Rattle.col_core.specs.Schemas.{dtype_eq};
+ghost use Rattle.col_core.specs.Physical.{physical_of};
 
 /// The unit of a time.
 #[derive(Clone, Copy, PartialEq, Eq, Debug)]
@@ -50,6 +51,55 @@ pub enum DataType {
     String,
     /// Bytes.
     Binary,
+}
+
+/// How the values of a type are kept: as bits, as numbers of one of nine types, or as bytes.
+#[derive(Clone, Copy, PartialEq, Eq, Debug)]
+pub enum PhysicalType {
+    /// Bits.
+    Boolean,
+    /// Signed numbers of 8 bits.
+    I8,
+    /// Signed numbers of 16 bits.
+    I16,
+    /// Signed numbers of 32 bits.
+    I32,
+    /// Signed numbers of 64 bits.
+    I64,
+    /// Signed numbers of 128 bits.
+    I128,
+    /// Unsigned numbers of 8 bits.
+    U8,
+    /// Unsigned numbers of 16 bits.
+    U16,
+    /// Unsigned numbers of 32 bits.
+    U32,
+    /// Unsigned numbers of 64 bits.
+    U64,
+    /// Bytes of any length.
+    Bytes,
+}
+
+impl DataType {
+    /// How the values of the type are kept.
+    pub fn physical(self) -> PhysicalType
+        ensures { result ≡ physical_of self }
+    {
+        match self {
+            DataType::Boolean => PhysicalType::Boolean,
+            DataType::Int8 => PhysicalType::I8,
+            DataType::Int16 => PhysicalType::I16,
+            DataType::Int32 | DataType::Date => PhysicalType::I32,
+            DataType::Int64 | DataType::Time | DataType::Datetime(_) | DataType::Duration(_) =>
+                PhysicalType::I64,
+            DataType::Int128 | DataType::Decimal(_, _) => PhysicalType::I128,
+            DataType::UInt8 => PhysicalType::U8,
+            DataType::UInt16 => PhysicalType::U16,
+            DataType::UInt32 => PhysicalType::U32,
+            DataType::UInt64 => PhysicalType::U64,
+            DataType::String | DataType::Binary => PhysicalType::Bytes,
+        }
+    }
 }
 
 /// Whether two types are the same, with the same precision, scale or unit.

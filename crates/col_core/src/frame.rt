@@ -4,7 +4,7 @@ ghost use Rattle.std.specs.Option.{unwrap_or};
 ghost use Rattle.col_core.specs.declared.frame.FrameError.TheVariants.{Memory};
 ghost use Rattle.col_core.specs.Refusals.{frame_refusal, height_of, differ_in_height, has_types};
 ghost use Rattle.std.specs.List.{All};
-ghost use Rattle.col_core.specs.Tables.{Table, Column, column_of, rows_at, rows_from, values_of, header, AreColumnsOf, IsBuildable, AreWide};
+ghost use Rattle.col_core.specs.Tables.{Table, Column, column_of, rows_at, rows_from, values_of, header, AreColumnsOf, AreWide};
 
 use crate::IdxSize;
 use crate::schema::{Field, Schema};
@@ -120,7 +120,6 @@ impl Frame {
     /// The rows at indexes, in the order of the indexes, each column in one chunk.
     pub fn take(&self, alloc: Global, idxs: &[IdxSize]) -> Result<Frame, AllocError>
         requires in_bounds { All (λ i. i < length self.now.rows) idxs.now }
-        requires built { All (λ f. IsBuildable f.dtype) self.now.schema }
         ensures { IfOk result (λ f. f ≡ record { schema = self.now.schema; rows = rows_at self.now.rows idxs.now }) }
     {
         let mut columns = Vec::new(alloc);
@@ -133,7 +132,6 @@ impl Frame {
     /// The `len` rows from `start` on, each column in one chunk.
     pub fn slice(&self, alloc: Global, start: usize, len: usize) -> Result<Frame, AllocError>
         requires in_bounds { start + len ≤ length self.now.rows }
-        requires built { All (λ f. IsBuildable f.dtype) self.now.schema }
         ensures { IfOk result (λ f. f ≡ record { schema = self.now.schema; rows = take len (drop start self.now.rows) }) }
     {
         let mut columns = Vec::new(alloc);

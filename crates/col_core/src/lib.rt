@@ -1,31 +1,26 @@
-//! Columns and frames.
+//! Columns and frames. The bits and arrays that columns are kept in stand in `col_arrays`, and are named here too.
 #![tactic(auto)]
 
-mod binary;
 mod builder;
 mod chunk;
 mod data_type;
 mod frame;
+mod items;
 mod leaf;
 mod list;
-mod pieces;
-mod primitive;
 mod schema;
 mod series;
 mod text;
-mod validity;
 
-pub use binary::BinaryArray;
 pub use builder::ColumnBuilder;
 pub use chunk::Chunk;
-pub use data_type::{DataType, TimeUnit, same_type};
+pub use col_arrays::{
+    BinaryArray, BitMask, Bitmap, BooleanArray, IdxSize, MutableBitmap, Native, PrimitiveArray,
+};
+pub use data_type::{DataType, PhysicalType, TimeUnit, same_type};
 pub use frame::{Frame, FrameError};
 pub use leaf::Leaf;
 pub use list::List;
-pub use primitive::PrimitiveArray;
 pub use schema::{Field, Schema};
 pub use series::{ColumnError, Series};
 pub use text::{Blob, Name};
-
-/// Places of rows and of items.
-pub type IdxSize = u32;

@@ -1,19 +1,19 @@
 //! Columns.
-ghost use Rattle.std.specs.Prelude.{◌≡◌, ◌<◌, ◌≤◌, ◌+◌, ◌^◌, not, length, IfOk, IfErr, None};
+ghost use Rattle.std.specs.Prelude.{◌≡◌, ◌<◌, ◌≤◌, ◌+◌, ◌^◌, not, length, take, drop, IfOk, IfErr, None};
 ghost use Rattle.std.specs.List.{All, count_by, list_any, range_with_len};
 ghost use Rattle.std.specs.Option.{unwrap_or};
 ghost use Rattle.col_core.specs.declared.series.ColumnError.TheVariants.{Memory};
 ghost use Rattle.col_core.specs.Refusals.{column_refusal};
-ghost use Rattle.col_core.specs.Tables.{Column, leaves_of, taken, AreChunksOf, IsBuildable, is_of_kind};
-ghost use Rattle.col_core.specs.Values.{value_at, Fits, is_null, is_text};
+ghost use Rattle.col_core.specs.Tables.{Column, leaves_of, chunk_leaves, values_at, taken, AreChunksOf, IsOfKind, is_of_kind};
+ghost use Rattle.col_core.specs.Values.{value_at, Fits, IsText, is_null, is_text};
 
 use crate::IdxSize;
-use crate::builder::ColumnBuilder;
 use crate::chunk::Chunk;
 use crate::data_type::DataType;
 use crate::leaf::Leaf;
 use crate::text::Name;
 use std::alloc::{AllocError, Global};
+use std::cmp::min;
 use std::marker::Model;
 
 /// A column: a name, a type and chunks. Contracts see the values, and not how they are cut
@@ -93,9 +93,10 @@ impl Series {
         &self.name
     }
 
-    /// The column's type.
+    /// The column's type. Where it is `String`, every present value is UTF-8.
     pub fn dtype(&self) -> DataType
-        ensures { result ≡ self.now.dtype }
+        ensures dtype { result ≡ self.now.dtype }
+        ensures texts { All (IsText result) self.now.values }
     {
         self.dtype
     }
@@ -131,38 +132,61 @@ impl Series {
         n
     }
 
+    /// The chunk that holds the value at a place, and its place there.
+    pub(crate) fn chunk_at(&self, i: usize) -> (&Chunk, usize)
+        requires { i < length self.now.values }
+        ensures within { result.1 < length (chunk_leaves result.0.now) }
+        ensures value { value_at (chunk_leaves result.0.now) result.1 ≡ value_at self.now.values i }
+        ensures kind { IsOfKind self.now.dtype result.0.now }
+        ensures text { IsText self.now.dtype (value_at self.now.values i) }
+    {
+        let mut place = i;
+        for chunk in self.chunks() {
+            let n = chunk.len();
+            if place < n {
+                return (chunk, place);
+            }
+            place -= n;
+        }
+        unreachable!()
+    }
+
     /// The value at a place, which fits the type.
+    #[tactic(auto, using(crate::proofs::Leaves::fits))]
     pub fn leaf(&self, alloc: Global, i: usize) -> Result<Leaf, AllocError>
         requires { i < length self.now.values }
         ensures value { IfOk result (λ v. v ≡ value_at self.now.values i) }
         ensures fits { IfOk result (λ v. Fits self.now.dtype v) }
     {
-        let mut rest = i;
-        for chunk in self.chunks() {
-            let n = chunk.len();
-            if rest < n {
-                let value = chunk.leaf(alloc, rest)?;
-                return Ok(value);
-            }
-            rest -= n;
-        }
-        unreachable!()
+        let (chunk, place) = self.chunk_at(i);
+        chunk.leaf(alloc, place)
     }
 
     /// The values at indexes, in the order of the indexes, in one chunk under the same name.
+    #[tactic(auto, using(crate::proofs::Leaves::ones))]
     pub fn take(&self, alloc: Global, idxs: &[IdxSize]) -> Result<Series, AllocError>
         requires in_bounds { All (λ i. i < length self.now.values) idxs.now }
-        requires built { IsBuildable self.now.dtype }
         ensures { IfOk result (λ s. s ≡ taken idxs.now self.now) }
     {
-        let mut built = ColumnBuilder::new(alloc, self.dtype());
-        for idx in idxs {
-            built.push_from(self, *idx as usize)?;
+        let chunk = self.taken_chunk(alloc, idxs)?;
+        let name = Name::new(alloc, self.name().as_str())?;
+        Series::from_chunk(alloc, name, self.dtype(), chunk)
+    }
+
+    /// The chunk of the values at indexes. A column of several chunks is joined into one first.
+    fn taken_chunk(&self, alloc: Global, idxs: &[IdxSize]) -> Result<Chunk, AllocError>
+        requires in_bounds { All (λ i. i < length self.now.values) idxs.now }
+        ensures values { IfOk result (λ c. chunk_leaves c ≡ values_at self.now.values idxs.now) }
+        ensures kind { IfOk result (IsOfKind self.now.dtype) }
+    {
+        match self.chunks() {
+            [chunk] => chunk.take(alloc, idxs),
+            _ => self.joined_chunk(alloc, 0, self.len())?.take(alloc, idxs),
         }
-        built.finish(alloc, Name::new(alloc, self.name().as_str())?)
     }
 
     /// The `len` values from `start` on, in one chunk under the same name.
+    #[tactic(auto, using(crate::proofs::Leaves::ones))]
     pub(crate) fn slice(
         &self,
         alloc: Global,
@@ -170,15 +194,47 @@ impl Series {
         len: usize,
     ) -> Result<Series, AllocError>
         requires in_bounds { start + len ≤ length self.now.values }
-        requires built { IsBuildable self.now.dtype }
         ensures { IfOk result (λ s. s ≡ taken (range_with_len start len) self.now) }
     {
-        let _count = self.len();
-        let mut built = ColumnBuilder::new(alloc, self.dtype());
-        for i in 0..len {
-            built.push_from(self, start + i)?;
+        let chunk = self.joined_chunk(alloc, start, len)?;
+        let name = Name::new(alloc, self.name().as_str())?;
+        Series::from_chunk(alloc, name, self.dtype(), chunk)
+    }
+
+    /// The chunk of the `len` values from `start` on.
+    #[tactic(auto, using(crate::proofs::Leaves::joins))]
+    fn joined_chunk(&self, alloc: Global, start: usize, len: usize) -> Result<Chunk, AllocError>
+        requires in_bounds { start + len ≤ length self.now.values }
+        ensures values { IfOk result (λ c. chunk_leaves c ≡ take len (drop start self.now.values)) }
+        ensures kind { IfOk result (IsOfKind self.now.dtype) }
+    {
+        let mut joined = Chunk::new(alloc, self.dtype().physical());
+        let mut skip = start;
+        let mut rest = len;
+        for chunk in self.chunks() {
+            let skipped = min(skip, chunk.len());
+            let count = min(rest, chunk.len() - skipped);
+            joined = joined.extended(chunk, skipped, count)?;
+            skip -= skipped;
+            rest -= count;
         }
-        built.finish(alloc, Name::new(alloc, self.name().as_str())?)
+        Ok(joined)
+    }
+
+    /// A column of one chunk, all of whose bytes are texts where the type is one of texts.
+    #[tactic(auto, using(crate::proofs::Leaves::ones))]
+    pub(crate) fn from_chunk(
+        alloc: Global,
+        name: Name,
+        dtype: DataType,
+        chunk: Chunk,
+    ) -> Result<Series, AllocError>
+        requires kind { IsOfKind dtype chunk }
+        requires texts { All (IsText dtype) (chunk_leaves chunk) }
+        ensures { IfOk result (λ s. s ≡ record { name = name; dtype = dtype; values = chunk_leaves chunk }) }
+    {
+        let _count = chunk.len();
+        Ok(Series::from_chunks(name, dtype, vec![in alloc; chunk]?))
     }
 }
 

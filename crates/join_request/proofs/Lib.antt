@@ -1,5 +1,7 @@
 mod Bytes
 mod Pairs
-mod Fields
-mod Widths
+mod Cuts
+mod Ranges
+mod Texts
+mod Rows
 mod Columns

@@ -1,25 +1,11 @@
 -- Frames: lists of rows, and rows: lists with one value for each field.
 use Rattle.std.specs.Prelude.{List, [], ◌∷◌, Option, Some, None, option_map, option_and_then}
-use Rattle.serde_json.specs.Data.{Data, null, Items, no_items, item}
-use Rattle.serde_json.specs.Find.{as_array, as_number, as_i64, as_str}
-use Rattle.col_core.specs.declared.leaf.Leaf.{Leaf}
-use Rattle.col_core.specs.declared.leaf.Leaf.TheVariants as leaves
-use Rattle.col_core.specs.declared.data_type.DataType.{DataType}
-use Rattle.col_core.specs.declared.data_type.DataType.TheVariants.{Int64, String}
+use Rattle.serde_json.specs.Data.{Data, Items, no_items, item}
+use Rattle.serde_json.specs.Find.{as_array}
 use Rattle.col_core.specs.declared.schema.Field.{Field}
 use Rattle.col_core.specs.Tables.{Row, Table}
 use Rattle.join_request.specs.Json.{list_of}
-
--- the value of a type, where it is not null: a whole number of 64 bits, or a text
-abbrev pub present_value : DataType → Data → Option Leaf
-present_value Int64 d = option_map leaves.Whole (option_and_then as_i64 (as_number d))
-present_value String d = option_map leaves.Bytes (as_str d)
-present_value dtype d = None
-
--- the value of a type, or null
-abbrev pub leaf_of_value : DataType → Data → Option Leaf
-leaf_of_value dtype null = Some leaves.Null
-leaf_of_value dtype d = present_value dtype d
+use Rattle.join_request.specs.Leaves.{leaf_of_value}
 
 -- one value for each field
 abbrev pub row_of_items : List Field → Items → Option Row

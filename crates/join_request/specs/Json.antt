@@ -29,6 +29,20 @@ abbrev pub object_of : List (List ℕ) → Data → Option Data
 object_of names (object ms) = if only_named names ms then Some (object ms) else None
 object_of names d = None
 
+-- what f reads of a member, or the default where the member is missing
+abbrev pub or_default : {A : Type 0} → A → (Data → Option A) → Option Data → Option A
+or_default default f None = Some default
+or_default default f (Some d) = f d
+
+-- the name and the value of the one member of an object
+abbrev pub one_member : Members → Option (List ℕ × Data)
+one_member (member name d no_members) = Some (name, d)
+one_member ms = None
+
+abbrev pub only_member : Data → Option (List ℕ × Data)
+only_member (object ms) = one_member ms
+only_member d = None
+
 -- what f reads of each item, where it reads something of each
 abbrev pub each : {A : Type 0} → (Data → Option A) → Items → Option (List A)
 each f no_items = Some []
@@ -38,10 +52,23 @@ each f (item d ds) = option_and_then (λ x. option_map (λ xs. x ∷ xs) (each f
 abbrev pub list_of : {A : Type 0} → (Data → Option A) → Data → Option (List A)
 list_of f d = option_and_then (each f) (as_array d)
 
+-- a list of two
 abbrev pub two_items : Items → Option (Data × Data)
 two_items (item a (item b no_items)) = Some (a, b)
 two_items ds = None
 
--- a list of two
 abbrev pub pair_of : Data → Option (Data × Data)
 pair_of d = option_and_then two_items (as_array d)
+
+-- a list of three
+abbrev pub three_items : Items → Option (Data × Data × Data)
+three_items (item a (item b (item c no_items))) = Some (a, b, c)
+three_items ds = None
+
+abbrev pub triple_of : Data → Option (Data × Data × Data)
+triple_of d = option_and_then three_items (as_array d)
+
+-- what a text names in a table of names
+abbrev pub named : {A : Type 0} → List (List ℕ × A) → List ℕ → Option A
+named [] text = None
+named (entry ∷ rest) text = if bytes_eq text entry.0 then Some entry.1 else named rest text

@@ -1,7 +1,11 @@
 pub mod Json
 pub mod Types
 pub mod Schemas
+pub mod Leaves
 pub mod Frames
+pub mod Columns
 pub mod Parts
+pub mod Filters
+pub mod Plans
 pub mod Refused
 pub mod Request

@@ -1,19 +1,19 @@
--- The parts of a request: its sides, the join, the group keys and the reductions.
-use Rattle.std.specs.Prelude.{ℕ, List, [], ◌∷◌, drop, length, if◌then◌else◌, nat_eq, bytes_eq, codes, Option, Some, None}
+-- The parts of a request: its sides, the join, columns and reductions.
+use Rattle.std.specs.Prelude.{ℕ, List, [], ◌∷◌, drop, length, Bool, false, if◌then◌else◌, nat_eq, codes, Option, Some, None}
 use Rattle.std.specs.List.{starts_with}
 use Rattle.serde_json.specs.Data.{Data}
-use Rattle.serde_json.specs.Find.{get, as_str}
+use Rattle.serde_json.specs.Find.{get, as_bool, as_str}
 use Rattle.reduce_model.specs.declared.kind.ReductionKind.{ReductionKind}
 use Rattle.reduce_model.specs.declared.kind.ReductionKind.TheVariants as kinds
 use Rattle.join_model.specs.declared.query.Side.{Side}
 use Rattle.join_model.specs.declared.query.Side.TheVariants.{Build, Probe}
 use Rattle.join_model.specs.declared.query.ColumnRef.{ColumnRef}
 use Rattle.join_model.specs.declared.query.Reduction.{Reduction}
-use Rattle.join_request.specs.Json.{◌>>=◌, object_of, list_of, pair_of}
+use Rattle.join_request.specs.Json.{◌>>=◌, object_of, or_default, list_of, pair_of, named}
 use Rattle.join_request.specs.Schemas.{schema_of_value}
 use Rattle.join_request.specs.Frames.{frames_of_value}
 use Rattle.join_request.specs.declared.parts.RequestSide.{RequestSide}
-use Rattle.join_request.specs.declared.parts.JoinKeys.{JoinKeys}
+use Rattle.join_request.specs.declared.parts.RequestJoin.{RequestJoin}
 
 -- a side: an object with a schema, and the frames that stand under it
 abbrev pub side_of_value : Data → Option RequestSide
@@ -27,13 +27,20 @@ side_of_value d = do
 abbrev pub names_of_value : Data → Option (List (List ℕ))
 names_of_value d = list_of as_str d
 
--- the join: an object with the names of the key columns of each side
-abbrev pub join_of_value : Data → Option JoinKeys
+-- a truth value, which is false where it is missing
+abbrev pub flag_of : Option Data → Option Bool
+flag_of found = or_default false as_bool found
+
+-- the join: an object with the names of the key columns of each side, and three truth values
+abbrev pub join_of_value : Data → Option RequestJoin
 join_of_value d = do
-  join ← object_of (codes "build" ∷ codes "probe" ∷ []) d
+  join ← object_of (codes "build" ∷ codes "probe" ∷ codes "null_equal" ∷ codes "keep_probe" ∷ codes "keep_build" ∷ []) d
   build ← get (codes "build") join >>= names_of_value
   probe ← get (codes "probe") join >>= names_of_value
-  Some (record { build = build; probe = probe })
+  null_equal ← flag_of (get (codes "null_equal") join)
+  keep_probe ← flag_of (get (codes "keep_probe") join)
+  keep_build ← flag_of (get (codes "keep_build") join)
+  Some (record { build = build; probe = probe; null_equal = null_equal; keep_probe = keep_probe; keep_build = keep_build })
 
 -- the column of a side whose name follows the text that stands in front
 abbrev pub column_after : List ℕ → Side → List ℕ → ColumnRef
@@ -54,12 +61,7 @@ columns_of_value d = list_of column_of_value d
 
 -- the reduction that a word names
 abbrev pub kind_of_text : List ℕ → Option ReductionKind
-kind_of_text text =
-    if bytes_eq text (codes "sum") then Some kinds.Sum else
-    (if bytes_eq text (codes "min") then Some kinds.Min else
-    (if bytes_eq text (codes "max") then Some kinds.Max else
-    (if bytes_eq text (codes "first") then Some kinds.First else
-    (if bytes_eq text (codes "last") then Some kinds.Last else None))))
+kind_of_text text = named ((codes "sum", kinds.Sum) ∷ (codes "min", kinds.Min) ∷ (codes "max", kinds.Max) ∷ (codes "first", kinds.First) ∷ (codes "last", kinds.Last) ∷ []) text
 
 -- a reduction: a pair of its kind and its column
 abbrev pub reduction_of_value : Data → Option Reduction

@@ -11,12 +11,12 @@ pub enum RequestError {
     /// A number is held as a float: one with a fraction, an exponent or a magnitude past 64 bits, or `-0`.
     #[error("float in request")]
     Float,
+    /// The value is no request: a member is missing, unknown or of another form.
+    #[error("not a request")]
+    Shape,
     /// There was no memory for the request.
     #[error("out of memory")]
     Memory,
-    /// The value is no request of the kind that is read: an inner join without a filter, over `Int64` and `String` columns.
-    #[error("request not built")]
-    NotBuilt,
 }
 
 impl From<AllocError> for RequestError {

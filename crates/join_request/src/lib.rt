@@ -2,10 +2,14 @@
 #![tactic(auto)]
 
 mod error;
+mod filters;
 mod frames;
+mod leaves;
 mod parts;
+mod plans;
 mod reader;
 mod schemas;
+mod types;
 mod values;
 
 pub use error::RequestError;

@@ -1,13 +1,13 @@
-//! The parts of a request: its sides, the join, the group keys and the reductions.
+//! The parts of a request: its sides, the join, columns and reductions.
 ghost use Rattle.std.specs.Prelude.{◌≡◌, IfOk, IfErr, Some};
 ghost use Rattle.serde_json.specs.View.{view};
-ghost use Rattle.join_request.specs.Parts.{side_of_value, names_of_value, join_of_value, column_of_text, columns_of_value, kind_of_text, reductions_of_value};
+ghost use Rattle.join_request.specs.Parts.{side_of_value, join_of_value, column_of_text, kind_of_text};
 ghost use Rattle.join_request.specs.Refused.{Refuses};
 
 use crate::error::RequestError;
 use crate::frames::read_frames;
 use crate::schemas::read_schema;
-use crate::values::{FromValue, member, object_named, read_list, read_pair, read_text};
+use crate::values::{FromValue, member, member_or, object_named, read_list, read_pair, read_text};
 use col_core::{Frame, List, Name, Schema};
 use join_model::{ColumnRef, Reduction, ReductionKind, Side};
 use serde_json::Value;
@@ -20,11 +20,14 @@ pub struct RequestSide {
     pub frames: List<Frame>,
 }
 
-/// The names of the key columns of each side.
+/// The names of the key columns of each side, and which rows join and are kept.
 #[derive(Debug, Drop)]
-pub struct JoinKeys {
+pub struct RequestJoin {
     pub build: List<Name>,
     pub probe: List<Name>,
+    pub null_equal: bool,
+    pub keep_probe: bool,
+    pub keep_build: bool,
 }
 
 /// The side that a value is.
@@ -39,31 +42,19 @@ pub fn read_side(alloc: Global, value: &Value) -> Result<RequestSide, RequestErr
 }
 
 /// The join that a value is.
-pub fn read_join(alloc: Global, value: &Value) -> Result<JoinKeys, RequestError>
-    ensures ok { IfOk result (λ keys. join_of_value (view value.now) ≡ Some keys) }
+pub fn read_join(alloc: Global, value: &Value) -> Result<RequestJoin, RequestError>
+    ensures ok { IfOk result (λ join. join_of_value (view value.now) ≡ Some join) }
     ensures err { IfErr result (Refuses (join_of_value (view value.now))) }
 {
-    let join = object_named(value, &["build", "probe"])?;
-    Ok(JoinKeys {
+    let names = ["build", "probe", "null_equal", "keep_probe", "keep_build"];
+    let join = object_named(value, &names)?;
+    Ok(RequestJoin {
         build: read_list(alloc, member(join, "build")?)?,
         probe: read_list(alloc, member(join, "probe")?)?,
+        null_equal: member_or(alloc, join, "null_equal", false)?,
+        keep_probe: member_or(alloc, join, "keep_probe", false)?,
+        keep_build: member_or(alloc, join, "keep_build", false)?,
     })
-}
-
-/// The group keys that a value is.
-pub fn read_columns(alloc: Global, value: &Value) -> Result<List<ColumnRef>, RequestError>
-    ensures ok { IfOk result (λ columns. columns_of_value (view value.now) ≡ Some columns) }
-    ensures err { IfErr result (Refuses (columns_of_value (view value.now))) }
-{
-    read_list(alloc, value)
-}
-
-/// The reductions that a value is.
-pub fn read_reductions(alloc: Global, value: &Value) -> Result<List<Reduction>, RequestError>
-    ensures ok { IfOk result (λ reductions. reductions_of_value (view value.now) ≡ Some reductions) }
-    ensures err { IfErr result (Refuses (reductions_of_value (view value.now))) }
-{
-    read_list(alloc, value)
 }
 
 impl FromValue for Name {
@@ -82,12 +73,12 @@ impl FromValue for ColumnRef {
     ghost from_value = { column_of_value };
 
     fn from_value(alloc: Global, value: &Value) -> Result<ColumnRef, RequestError> {
-        read_column(alloc, read_text(value)?)
+        column_named(alloc, read_text(value)?)
     }
 }
 
 /// The column that a text names, with its side and a dot in front.
-fn read_column(alloc: Global, text: &str) -> Result<ColumnRef, RequestError>
+pub fn column_named(alloc: Global, text: &str) -> Result<ColumnRef, RequestError>
     ensures ok { IfOk result (λ column. column_of_text text.now ≡ Some column) }
     ensures err { IfErr result (Refuses (column_of_text text.now)) }
 {
@@ -96,7 +87,7 @@ fn read_column(alloc: Global, text: &str) -> Result<ColumnRef, RequestError>
     } else if let Some(name) = text.strip_prefix("probe.") {
         (Side::Probe, name)
     } else {
-        return Err(RequestError::NotBuilt);
+        return Err(RequestError::Shape);
     };
     Ok(ColumnRef {
         side,
@@ -129,6 +120,6 @@ fn kind_named(text: &str) -> Result<ReductionKind, RequestError>
         "max" => Ok(ReductionKind::Max),
         "first" => Ok(ReductionKind::First),
         "last" => Ok(ReductionKind::Last),
-        _ => Err(RequestError::NotBuilt),
+        _ => Err(RequestError::Shape),
     }
 }

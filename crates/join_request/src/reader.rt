@@ -1,14 +1,15 @@
 //! Requests: JSON bytes that are a query and the frames of its two sides.
 ghost use Rattle.std.specs.Prelude.{◌≡◌, ◌⊎◌, IfOk, IfErr, Ok, Err, Some};
 ghost use Rattle.serde_json.specs.View.{view};
-ghost use Rattle.join_request.specs.Request.{request_of, request_without_floats, request_of_value, request_of_parts, default_plan};
+ghost use Rattle.join_request.specs.Request.{request_of, request_without_floats, request_of_value, query_of_object, request_of_parts};
 ghost use Rattle.join_request.specs.Refused.{Refuses};
 
 use crate::error::RequestError;
-use crate::parts::{JoinKeys, RequestSide, read_columns, read_join, read_reductions, read_side};
-use crate::values::{holds_float, member, object_named, read_value};
+use crate::parts::{RequestJoin, RequestSide, read_join, read_side};
+use crate::plans::default_plan;
+use crate::values::{holds_float, member, member_or, object_named, read_list, read_value};
 use col_core::{Frame, List};
-use join_model::{ColumnRef, Plan, Query, Reduction};
+use join_model::{ColumnRef, Filter, Plan, Query, Reduction};
 use serde_json::Value;
 use std::alloc::Global;
 
@@ -20,8 +21,9 @@ pub struct Request {
     pub probe: List<Frame>,
 }
 
-/// The request that the bytes are: an object with exactly the members `build`, `probe`, `join`, `group` and `reduce`.
-/// `request_of` says which request that is, and which refusal comes first. Of members of one name the last one counts.
+/// The request that the bytes are: an object with the members `build`, `probe`, `join`, `group` and `reduce`, and maybe
+/// `filter` and `plan`. `request_of` says which request that is, and which refusal comes first. Of members of one name
+/// the last one counts.
 pub fn read_request(alloc: Global, bytes: &[u8]) -> Result<Request, RequestError>
     ensures ok { IfOk result (λ r. request_of bytes.now ≡ Ok r) }
     ensures refused { IfErr result (λ e. (e ≡ RequestError.Memory) ⊎ (request_of bytes.now ≡ Err e)) }
@@ -44,56 +46,65 @@ fn request_of_value(alloc: Global, value: &Value) -> Result<Request, RequestErro
     ensures ok { IfOk result (λ r. request_of_value (view value.now) ≡ Some r) }
     ensures err { IfErr result (Refuses (request_of_value (view value.now))) }
 {
-    let request = object_named(value, &["build", "probe", "join", "group", "reduce"])?;
+    let names = [
+        "build", "probe", "join", "filter", "group", "reduce", "plan",
+    ];
+    let request = object_named(value, &names)?;
     let build = read_side(alloc, member(request, "build")?)?;
     let probe = read_side(alloc, member(request, "probe")?)?;
-    let join = read_join(alloc, member(request, "join")?)?;
-    let group = read_columns(alloc, member(request, "group")?)?;
-    let reduce = read_reductions(alloc, member(request, "reduce")?)?;
-    Ok(request_of_parts(build, probe, join, group, reduce))
+    let parts = query_of_object(alloc, request)?;
+    Ok(request_of_parts(build, probe, parts))
 }
 
-/// An inner join on keys that are not null, without a filter, by the default plan.
-fn request_of_parts(
-    build: RequestSide,
-    probe: RequestSide,
-    join: JoinKeys,
-    group: List<ColumnRef>,
-    reduce: List<Reduction>,
-) -> Request
-    ensures { result ≡ request_of_parts build probe join group reduce }
+/// What a request says beside its two sides.
+#[derive(Debug, Drop)]
+pub struct QueryParts {
+    pub join: RequestJoin,
+    pub filter: Option<Filter>,
+    pub group: List<ColumnRef>,
+    pub reduce: List<Reduction>,
+    pub plan: Plan,
+}
+
+fn query_of_object(alloc: Global, request: &Value) -> Result<QueryParts, RequestError>
+    ensures ok { IfOk result (λ parts. query_of_object (view request.now) ≡ Some parts) }
+    ensures err { IfErr result (Refuses (query_of_object (view request.now))) }
 {
+    Ok(QueryParts {
+        join: read_join(alloc, member(request, "join")?)?,
+        filter: member_or(alloc, request, "filter", None)?,
+        group: read_list(alloc, member(request, "group")?)?,
+        reduce: read_list(alloc, member(request, "reduce")?)?,
+        plan: member_or(alloc, request, "plan", default_plan())?,
+    })
+}
+
+/// The query of two schemas and the other parts, and the frames.
+fn request_of_parts(build: RequestSide, probe: RequestSide, parts: QueryParts) -> Request
+    ensures { result ≡ request_of_parts build probe parts }
+{
+    let QueryParts {
+        join,
+        filter,
+        group,
+        reduce,
+        plan,
+    } = parts;
     Request {
         query: Query {
             build_schema: build.schema,
             probe_schema: probe.schema,
             build_keys: join.build,
             probe_keys: join.probe,
-            null_equal: false,
-            keep_probe: false,
-            keep_build: false,
-            filter: None,
+            null_equal: join.null_equal,
+            keep_probe: join.keep_probe,
+            keep_build: join.keep_build,
+            filter,
             group_keys: group,
             reductions: reduce,
-            plan: default_plan(),
+            plan,
         },
         build: build.frames,
         probe: probe.frames,
-    }
-}
-
-/// The plan of a request that names none.
-fn default_plan() -> Plan
-    ensures { result ≡ default_plan }
-{
-    Plan {
-        partitions: 8,
-        states: 4,
-        limit: 4096,
-        morsel: 65536,
-        rows: 4294967295,
-        seed: 14695981039346656037,
-        mask: 18446744073709551615,
-        pseed: 11400714819323198485,
     }
 }

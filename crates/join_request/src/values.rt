@@ -4,7 +4,7 @@ ghost use Rattle.serde_json.specs.Data.{Data};
 ghost use Rattle.serde_json.specs.Find.{get, as_str};
 ghost use Rattle.serde_json.specs.View.{view, items_view, members_view};
 ghost use Rattle.serde_json.specs.Written.{has_float, items_have_float, members_have_float};
-ghost use Rattle.join_request.specs.Json.{value_of, is_one_of, only_named, object_of, pair_of, list_of};
+ghost use Rattle.join_request.specs.Json.{value_of, is_one_of, only_named, object_of, or_default, only_member, pair_of, triple_of, list_of};
 ghost use Rattle.join_request.specs.Refused.{Refuses};
 
 use crate::error::RequestError;
@@ -73,7 +73,7 @@ pub fn read_list<T: FromValue>(alloc: Global, value: &Value) -> Result<List<T>, 
     ensures err { IfErr result (Refuses (list_of T.from_value (view value.now))) }
 {
     let Some(items) = value.as_array() else {
-        return Err(RequestError::NotBuilt);
+        return Err(RequestError::Shape);
     };
     let mut found = Vec::new(alloc);
     for item in items {
@@ -99,7 +99,7 @@ pub fn object_named<'a>(value: &'a Value, names: &[&str]) -> Result<&'a Value, R
 {
     match value.as_object() {
         Some(members) if has_only(members, names) => Ok(value),
-        _ => Err(RequestError::NotBuilt),
+        _ => Err(RequestError::Shape),
     }
 }
 
@@ -130,7 +130,48 @@ pub fn member<'a>(value: &'a Value, name: &str) -> Result<&'a Value, RequestErro
     ensures ok { IfOk result (λ found. get name.now (view value.now) ≡ Some (view found.now)) }
     ensures err { IfErr result (Refuses (get name.now (view value.now))) }
 {
-    value.get(name).ok_or(RequestError::NotBuilt)
+    value.get(name).ok_or(RequestError::Shape)
+}
+
+/// What is read of a member of an object, or the default where the member is missing.
+pub fn member_or<T: FromValue>(
+    alloc: Global,
+    object: &Value,
+    name: &str,
+    default: T,
+) -> Result<T, RequestError>
+    ensures ok { IfOk result (λ found. or_default default T.from_value (get name.now (view object.now)) ≡ Some found) }
+    ensures err { IfErr result (Refuses (or_default default T.from_value (get name.now (view object.now)))) }
+{
+    match object.get(name) {
+        Some(value) => T::from_value(alloc, value),
+        None => Ok(default),
+    }
+}
+
+/// The name and the value of the one member of an object.
+#[tactic(auto, using(crate::proofs::Pairs::members))]
+pub fn only_member(value: &Value) -> Result<(&str, &Value), RequestError>
+    ensures ok { IfOk result (λ m. only_member (view value.now) ≡ Some (m.0.now, view m.1.now)) }
+    ensures err { IfErr result (Refuses (only_member (view value.now))) }
+{
+    let Some(members) = value.as_object() else {
+        return Err(RequestError::Shape);
+    };
+    match members.first_key_value() {
+        Some((name, found)) if members.len() == 1 => Ok((name.as_str(), found)),
+        _ => Err(RequestError::Shape),
+    }
+}
+
+impl FromValue for bool {
+    ghost use Rattle.serde_json.specs.Find.{as_bool};
+
+    ghost from_value = { as_bool };
+
+    fn from_value(_alloc: Global, value: &Value) -> Result<bool, RequestError> {
+        value.as_bool().ok_or(RequestError::Shape)
+    }
 }
 
 /// The items of a list of two.
@@ -140,11 +181,26 @@ pub fn read_pair(value: &Value) -> Result<(&Value, &Value), RequestError>
     ensures err { IfErr result (Refuses (pair_of (view value.now))) }
 {
     let Some(items) = value.as_array() else {
-        return Err(RequestError::NotBuilt);
+        return Err(RequestError::Shape);
     };
     match items.as_slice() {
         [first, second] => Ok((first, second)),
-        _ => Err(RequestError::NotBuilt),
+        _ => Err(RequestError::Shape),
+    }
+}
+
+/// The items of a list of three.
+#[tactic(auto, using(crate::proofs::Pairs::no_triples))]
+pub fn read_triple(value: &Value) -> Result<(&Value, &Value, &Value), RequestError>
+    ensures ok { IfOk result (λ t. triple_of (view value.now) ≡ Some (view t.0.now, view t.1.now, view t.2.now)) }
+    ensures err { IfErr result (Refuses (triple_of (view value.now))) }
+{
+    let Some(items) = value.as_array() else {
+        return Err(RequestError::Shape);
+    };
+    match items.as_slice() {
+        [first, second, third] => Ok((first, second, third)),
+        _ => Err(RequestError::Shape),
     }
 }
 
@@ -153,5 +209,5 @@ pub fn read_text(value: &Value) -> Result<&str, RequestError>
     ensures ok { IfOk result (λ text. as_str (view value.now) ≡ Some text.now) }
     ensures err { IfErr result (Refuses (as_str (view value.now))) }
 {
-    value.as_str().ok_or(RequestError::NotBuilt)
+    value.as_str().ok_or(RequestError::Shape)
 }

@@ -1,14 +1,11 @@
-use Rattle.std.proofs.Common.{◌≡◌, length, ap, ◌∙◌, sym, subst, map, List, ℕ}
+use Rattle.std.proofs.Common.{◌≡◌, [], length, ap, ◌∙◌, sym, subst, map, List, ℕ}
 use Rattle.std.specs.List.{range_with_len}
 use Rattle.std.proofs.lemmas.List.{take_all}
 use Rattle.std.proofs.lemmas.List.FromFn.{length-range_with_len}
 use Rattle.col_core.specs.declared.schema.Field.{Field}
 use Rattle.col_core.specs.Tables.{Table, Row, Column, taken, rows_from, values_of, AreColumnsOf}
-use Rattle.col_core.proofs.Rows.{buildable_at, under_taken, columns_taken, range_within, rows_in_range}
+use Rattle.col_core.proofs.Rows.{under_taken, columns_taken, range_within, in_range}
 use Rattle.col_core.proofs.frame.Frame.slice.Goals as goal
-
-pub slice-requires-clause-built : goal.slice-requires-clause-built
-slice-requires-clause-built c = buildable_at _ _ c.loop-column.column-index c.column-item.result c.columns-column-items.ensures.under.headers c.requires.built c.loop-column-test.true c.column-item.is
 
 pub from_columns-requires : goal.from_columns-requires
 from_columns-requires c =
@@ -32,4 +29,4 @@ returns c =
     ap (λ (n : ℕ). rows_from n (values_of c.loop-column.columns.items)) (sym (length-range_with_len c.args.start c.args.len))
     ∙ ap (λ (cs : List Column). rows_from (length places) (values_of cs)) whole
     ∙ columns_taken columns (length rows) rows places c.columns-column-items.ensures.rows (range_within c.args.start c.args.len (length rows) c.requires.in_bounds)
-    ∙ rows_in_range rows c.args.start c.args.len c.requires.in_bounds)
+    ∙ in_range rows [] c.args.start c.args.len c.requires.in_bounds)

@@ -2,11 +2,8 @@ use Rattle.std.proofs.Common.{◌≡◌, length, ap, ◌∙◌, map, List}
 use Rattle.std.proofs.lemmas.List.{take_all}
 use Rattle.col_core.specs.declared.schema.Field.{Field}
 use Rattle.col_core.specs.Tables.{Table, Row, Column, taken, rows_from, values_of}
-use Rattle.col_core.proofs.Rows.{buildable_at, under_taken, columns_taken}
+use Rattle.col_core.proofs.Rows.{under_taken, columns_taken}
 use Rattle.col_core.proofs.frame.Frame.take.Goals as goal
-
-pub take-requires-clause-built : goal.take-requires-clause-built
-take-requires-clause-built c = buildable_at _ _ c.loop-column.column-index c.column-item.result c.columns-column-items.ensures.under.headers c.requires.built c.loop-column-test.true c.column-item.is
 
 -- the schema of the clone, and all columns taken
 pub from_columns-requires : goal.from_columns-requires

@@ -1,0 +1,6 @@
+use Rattle.col_core.specs.declared.leaf.Leaf.TheVariants as leaves
+use Rattle.col_core.proofs.ItemLeaves.{leaves_extended}
+use Rattle.col_core.proofs.items.BooleanArrayValueArray.extend_items.Goals as goal
+
+pub returns : goal.returns
+returns c = leaves_extended c.extended.result (λ b. leaves.Bool b) c.args.self c.args.source.now c.args.start c.args.len c.extended.ensures
