@@ -1,5 +1,5 @@
 -- The columns that a query names.
-use Rattle.std.proofs.Common.{◌≡◌, ℕ, zero, suc, ◌+◌, ◌-◌, ◌<◌, true, false, List, [], ◌∷◌, ◌++◌, map, length, slice_get, Option, Some, is_some, refl, sym, ap, ◌∙◌, subst, arith, inl, inr}
+use Rattle.std.proofs.Common.{◌≡◌, ℕ, zero, suc, ◌+◌, ◌-◌, ◌<◌, true, false, List, [], ◌∷◌, ◌++◌, map, length, slice_get, Option, Some, is_some, refl, sym, ap, ◌∙◌, arith, inl, inr}
 use Rattle.std.specs.Prelude.{IsSome, nat_lt}
 use Rattle.std.specs.List.{position_or_len}
 use Rattle.std.specs.Option.{option_map_or}
@@ -11,9 +11,7 @@ use Rattle.col_core.specs.declared.schema.Field.{Field}
 use Rattle.col_core.specs.declared.data_type.DataType.{DataType}
 use Rattle.col_core.specs.declared.data_type.DataType.TheVariants.{Binary}
 use Rattle.col_core.specs.Schemas.{field_position, type_named}
-use Rattle.std.specs.List.{All}
-use Rattle.std.proofs.lemmas.List.Elements.{All-get_or}
-use Rattle.col_core.specs.Tables.{header, Column, IsBuildable}
+use Rattle.col_core.specs.Tables.{header, Column}
 use Rattle.join_model.specs.declared.query.Query.{Query}
 use Rattle.join_model.specs.declared.query.Side.TheVariants as sides
 use Rattle.join_model.specs.declared.query.ColumnRef.{ColumnRef}
@@ -75,7 +73,3 @@ probe_type q ref i c side at found = type_referred q ref q.probe_schema i i c (a
 
 pub build_type : (q : Query) (ref : ColumnRef) (i : ℕ) (c : Column) → ref.side ≡ sides.Build → field_position ref.name q.build_schema ≡ Some i → slice_get (joined_schema q) (length q.probe_schema + i) ≡ Some (header c) → c.dtype ≡ ref_type q ref
 build_type q ref i c side at found = type_referred q ref q.build_schema i (length q.probe_schema + i) c (ap (schema_of q) side) at (right_type (side_prefix sides.Probe) (side_prefix sides.Build) q.probe_schema q.build_schema i (position-Some (λ (f : Field). bytes_eq f.name ref.name) q.build_schema i no_field at).0) found
-
--- a column found in a schema of types that are built has such a type
-pub built_found : (schema : List Field) (place : ℕ) (c : Column) → All (λ (f : Field). IsBuildable f.dtype) schema → place < length schema → slice_get schema place ≡ Some (header c) → IsBuildable c.dtype
-built_found schema place c all inside found = subst (λ (f : Field). IsBuildable f.dtype) (field_found schema place (header c) found) (All-get_or (λ (f : Field). IsBuildable f.dtype) schema place no_field inside all)

@@ -1,7 +1,6 @@
 -- The groups of joined rows under one group key and one sum, from the entries of the rows.
-use Rattle.std.proofs.Common.{◌≡◌, ℕ, ℤ, pos, ◌<◌, Bool, true, false, ◌&&◌, cond, List, [], ◌∷◌, ◌++◌, map, filter, fold, length, get_or, Option, Some, None, refl, sym, ap, ◌∙◌, subst, arith}
+use Rattle.std.proofs.Common.{◌≡◌, ℕ, ℤ, pos, ◌<◌, Bool, true, false, cond, List, [], ◌∷◌, ◌++◌, map, filter, fold, length, get_or, refl, sym, ap, ◌∙◌, subst, arith}
 use Rattle.std.specs.List.{All}
-use Rattle.std.specs.Option.{option_map_or}
 use Rattle.std.proofs.lemmas.Bool.{false≢true}
 use Rattle.std.proofs.lemmas.List.{length-map, get_or-map}
 use Rattle.std.proofs.lemmas.List.FromFn.{fill_by_all}
@@ -12,12 +11,11 @@ use Rattle.col_core.specs.declared.leaf.Leaf.{Leaf}
 use Rattle.col_core.specs.declared.leaf.Leaf.TheVariants as leaves
 use Rattle.col_core.specs.declared.schema.Field.{Field}
 use Rattle.col_core.specs.declared.data_type.DataType.{DataType}
-use Rattle.col_core.specs.declared.data_type.DataType.TheVariants.{Int64, Binary}
+use Rattle.col_core.specs.declared.data_type.DataType.TheVariants.{Int64}
 use Rattle.col_core.specs.Values.{value_at}
 use Rattle.col_core.specs.Tables.{Row, Table, rows_from}
 use Rattle.col_core.proofs.Equalities.{both}
 use Rattle.col_core.proofs.Rows.{map_agree}
-use Rattle.col_core.specs.Schemas.{type_named}
 use Rattle.reduce_model.specs.declared.kind.ReductionKind.{ReductionKind}
 use Rattle.reduce_model.specs.declared.kind.ReductionKind.TheVariants.{Sum}
 use Rattle.reduce_model.specs.Folds.{fold_of, add_value, reduced_type}
@@ -27,13 +25,14 @@ use Rattle.join_model.specs.declared.query.Query.{Query}
 use Rattle.join_model.specs.declared.query.ColumnRef.{ColumnRef}
 use Rattle.join_model.specs.declared.query.Reduction.{Reduction}
 use Rattle.join_model.specs.Keys.{tuple_eq}
-use Rattle.join_model.specs.Filtered.{schema_of, ref_value}
+use Rattle.join_model.specs.Filtered.{ref_value}
 use Rattle.join_model.specs.Groups.{ref_type, group_key, group_keys, members_of, reduced, group_row, group_rows}
 use Rattle.join_model.specs.Answers.{ref_name, kind_prefix, key_field, reduction_field, group_schema}
 use Rattle.join_model.proofs.Decides.{tuple_eq-Decides}
 use Rattle.join_engine.specs.declared.totals.Entry.{Entry}
 use Rattle.join_engine.specs.Totals.{keys_of, total_of, add_entry, entry_at, entries_of, totals_table}
-use Rattle.join_engine.specs.Thin.{is_int64, is_sum, is_thin_group, are_thin_reductions}
+use Rattle.join_model.specs.Refusals.{is_int64, is_sum, is_one_sum}
+use Rattle.join_engine.specs.Simple.{is_one_column}
 use Rattle.join_engine.proofs.Grouped.{keyed_rows}
 
 pub sum_is : (kind : ReductionKind) → is_sum kind ≡ true → kind ≡ Sum
@@ -42,12 +41,8 @@ sum_is kind h = grind arith
 int64_is : (t : DataType) → is_int64 t ≡ true → t ≡ Int64
 int64_is t h = grind arith
 
-pub named_int64 : (o : Option DataType) → option_map_or is_int64 o false ≡ true → option_map_or (λ t. t) o Binary ≡ Int64
-named_int64 None h = absurd (false≢true h)
-named_int64 (Some t) h = int64_is t h
-
 -- one group key
-pub one_group : (q : Query) (refs : List ColumnRef) (g : ColumnRef) → is_thin_group q refs ≡ true → g ≡ get_or refs 0 g → refs ≡ g ∷ []
+pub one_group : (q : Query) (refs : List ColumnRef) (g : ColumnRef) → is_one_column q refs ≡ true → g ≡ get_or refs 0 g → refs ≡ g ∷ []
 one_group q [] g h e = absurd (false≢true h)
 one_group q (x ∷ []) g h e = ap (λ (y : ColumnRef). y ∷ []) (sym e)
 one_group q (x ∷ y ∷ refs) g h e = absurd (false≢true h)
@@ -58,14 +53,14 @@ pub record IsOneSum (q : Query) (reductions : List Reduction) (r : Reduction) : 
   pub kind : r.kind ≡ Sum
   pub dtype : ref_type q r.column ≡ Int64
 
-pub one_sum : (q : Query) (rs : List Reduction) (r : Reduction) → are_thin_reductions q rs ≡ true → r ≡ get_or rs 0 r → IsOneSum q rs r
+pub one_sum : (q : Query) (rs : List Reduction) (r : Reduction) → is_one_sum q rs ≡ true → r ≡ get_or rs 0 r → IsOneSum q rs r
 one_sum q [] r h e = absurd (false≢true h)
 one_sum q (x ∷ []) r h e =
-    let halves = both (is_sum x.kind) (option_map_or is_int64 (type_named x.column.name (schema_of q x.column.side)) false) h in
+    let halves = both (is_sum x.kind) (is_int64 (ref_type q x.column)) h in
     record {
       one = ap (λ (y : Reduction). y ∷ []) (sym e);
       kind = ap (λ (y : Reduction). y.kind) e ∙ sum_is x.kind halves.0;
-      dtype = ap (λ (y : Reduction). ref_type q y.column) e ∙ named_int64 (type_named x.column.name (schema_of q x.column.side)) halves.1;
+      dtype = ap (λ (y : Reduction). ref_type q y.column) e ∙ int64_is (ref_type q x.column) halves.1;
     }
 one_sum q (x ∷ y ∷ rs) r h e = absurd (false≢true h)
 

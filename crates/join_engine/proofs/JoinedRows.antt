@@ -19,7 +19,7 @@ use Rattle.join_engine.specs.declared.pairs.ProbeError.{ProbeError}
 use Rattle.join_engine.specs.declared.pairs.ProbeError.TheVariants.{TooLarge, Memory}
 use Rattle.join_engine.specs.Places.{row_of, IsPlace}
 use Rattle.join_engine.specs.Pairs.{key_joins, paired, pairs_of, matched, keyed_at, pair_row, IsPair, IsKeyedSide, ProbeFails}
-use Rattle.join_engine.specs.Thin.{IsThin}
+use Rattle.join_engine.specs.Simple.{IsSimple}
 
 same_test : (a n : Bool) → (a && not n) ≡ ((a && true) && (false || not (n || false)))
 same_test true true = refl
@@ -43,7 +43,7 @@ filter_all {A} t h (x ∷ xs) = rw (h x) (ap (λ (r : List A). x ∷ r) (filter_
 pub all_kept : (q : Query) (rows : List Row) → q.filter ≡ None → filter (passes q) rows ≡ rows
 all_kept q rows h = filter_all (passes q) (λ row. rw h refl) rows
 
-module _ (q : Query) (B P : List Table) (thin : IsThin q B P) (bs ps : List Keyed) (build : IsKeyedSide q.build_schema q.build_keys B bs) (probe : IsKeyedSide q.probe_schema q.probe_keys P ps) where
+module _ (q : Query) (B P : List Table) (simple : IsSimple q B P) (bs ps : List Keyed) (build : IsKeyedSide q.build_schema q.build_keys B bs) (probe : IsKeyedSide q.probe_schema q.probe_keys P ps) where
   abbrev build_row : RowPlace → Keyed
   build_row = keyed_at B build.column
 
@@ -55,12 +55,12 @@ module _ (q : Query) (B P : List Table) (thin : IsThin q B P) (bs ps : List Keye
       let key_of_probe = value_at (row_of P p) probe.column in
       let key_of_build = value_at (row_of B b) build.column in
       same_test (leaf_eq key_of_probe key_of_build) (is_null key_of_probe)
-      ∙ sym (ap (λ (e : Bool). joins e (tuple q.probe_schema q.probe_keys (row_of P p)) (tuple q.build_schema q.build_keys (row_of B b))) thin.null_equal
+      ∙ sym (ap (λ (e : Bool). joins e (tuple q.probe_schema q.probe_keys (row_of P p)) (tuple q.build_schema q.build_keys (row_of B b))) simple.null_equal
       ∙ ap (λ (k : List Leaf). joins false k (tuple q.build_schema q.build_keys (row_of B b))) (probe.key (row_of P p))
       ∙ ap (λ (k : List Leaf). joins false (key_of_probe ∷ []) k) (build.key (row_of B b)))
 
   one_probe : (places : List RowPlace) (p : RowPlace) → map (pair_row P B) (pairs_of (map build_row places) (probe_row p)) ≡ rows_of_probe q (map (row_of B) places) (row_of P p)
-  one_probe places p = go places ∙ sym (partners q.keep_probe q.build_schema (row_of P p) (filter (rows_join q (row_of P p)) (map (row_of B) places)) thin.keep_probe)
+  one_probe places p = go places ∙ sym (partners q.keep_probe q.build_schema (row_of P p) (filter (rows_join q (row_of P p)) (map (row_of B) places)) simple.keep_probe)
     where
       go : (places : List RowPlace) → map (pair_row P B) (map (paired (probe_row p)) (filter (key_joins (probe_row p)) (map build_row places))) ≡ map (λ (x : Row). row_of P p ++ x) (filter (rows_join q (row_of P p)) (map (row_of B) places))
       go [] = refl
@@ -89,7 +89,7 @@ module _ (q : Query) (B P : List Table) (thin : IsThin q B P) (bs ps : List Keye
       ∙ ap (flat_map (rows_of_probe q (rows_of B))) probe.whole
       ∙ sym (append-nil (flat_map (rows_of_probe q (rows_of B)) (rows_of P)))
       ∙ ap (λ (r : List Row). flat_map (rows_of_probe q (rows_of B)) (rows_of P) ++ map (λ (b : Row). nulls q.probe_schema ++ b) r)
-      (sym (filter_none (is_outer q (rows_of P)) (λ b. ap (λ (k : Bool). k && not (list_any (λ p. rows_join q p b) (rows_of P))) thin.keep_build) (rows_of B)))
+      (sym (filter_none (is_outer q (rows_of P)) (λ b. ap (λ (k : Bool). k && not (list_any (λ p. rows_join q p b) (rows_of P))) simple.keep_build) (rows_of B)))
 
   length_matched : length (matched bs ps) ≡ length (joined_rows q (rows_of B) (rows_of P))
   length_matched = sym (length-map (matched bs ps) (pair_row P B)) ∙ ap length rows_of_matched

@@ -4,6 +4,7 @@ pub mod Gathered
 pub mod Grouped
 pub mod Columns
 pub mod GroupRows
-pub mod Thinness
+pub mod Sides
+pub mod Parts
 pub mod JoinedRows
-pub mod Refused
+pub mod FirstPlaces

@@ -4,7 +4,7 @@ pub use Rattle.join_model.specs.Filtered
 pub use Rattle.join_model.specs.Groups
 pub use Rattle.join_model.specs.Answers
 pub use Rattle.join_model.specs.Refusals
-pub mod Thin
 pub mod Places
 pub mod Pairs
+pub mod Simple
 pub mod Totals

@@ -6,6 +6,8 @@ use Rattle.col_core.specs.Values.{value_at, is_null}
 use Rattle.col_core.specs.Tables.{Row, Table}
 use Rattle.join_engine.specs.declared.places.RowPlace.{RowPlace}
 use Rattle.join_engine.specs.Places.{row_of, IsPlace}
+use Rattle.join_model.specs.declared.error.QueryError.{QueryError}
+use Rattle.join_model.specs.declared.error.QueryError.TheVariants as queries
 use Rattle.join_model.specs.Keys.{leaf_eq, tuple}
 use Rattle.join_model.specs.Joined.{rows_of}
 use Rattle.join_engine.specs.declared.pairs.Keyed.{Keyed}
@@ -32,6 +34,11 @@ matched build probe = flat_map (pairs_of build) probe
 abbrev pub ProbeFails : ℕ → List Pair → ProbeError → Type 0
 ProbeFails most pairs TooLarge = most < length pairs
 ProbeFails most pairs Memory = Unit {0}
+
+-- a probe's error as the query's
+abbrev pub IsQueryErrorOf : ProbeError → QueryError → Type 0
+IsQueryErrorOf TooLarge e = e ≡ queries.TooLarge
+IsQueryErrorOf Memory e = e ≡ queries.Memory
 
 -- a row with its key
 abbrev pub keyed_at : List Table → ℕ → RowPlace → Keyed

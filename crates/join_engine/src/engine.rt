@@ -1,46 +1,20 @@
 //! The join as a whole.
-ghost use Rattle.std.specs.Prelude.{◌≡◌, ◌⊎◌, ◌↔◌, IfOk, IfErr, Some, None, Err, true, false};
+ghost use Rattle.std.specs.Prelude.{◌≡◌, ◌⊎◌, IfOk, IfErr, IsOk, true, false};
 ghost use Rattle.join_model.specs.Answers.{answer_rows, answer_groups};
-ghost use Rattle.join_model.specs.Refusals.{TooLarge, refusal_of, is_too_large, lists_too_many};
-ghost use Rattle.join_engine.specs.Thin.{is_thin, thin_refusal, IsThin};
+ghost use Rattle.join_model.specs.Refusals.{checked_refusal, refusal_of, is_too_large, lists_too_many};
+ghost use Rattle.join_engine.specs.Simple.{IsSimple};
 
+use crate::check::check_query;
 use crate::grouping::group_frame;
 use crate::pairs::{ProbeError, join_rows, joined_pairs};
-use crate::thin::{has_too_many, is_thin_query};
 use col_core::Frame;
-use join_model::Query;
-use std::alloc::{AllocError, Global};
+use join_model::{Query, QueryError};
+use std::alloc::Global;
 use std::sync::ledger::Ledger;
 use step_count::Steps;
-use thiserror::Error;
-
-/// Why a query is not answered. `thin_refusal` says when each comes; the numbers are those that a program prints.
-#[derive(Clone, Copy, PartialEq, Eq, Debug, Error)]
-pub enum QueryError {
-    /// 7: a side has 2^31 or more rows or frames, or the joined list is longer than the plan allows.
-    #[error("too large")]
-    TooLarge,
-    /// 8: memory was wanted and not found. Nothing else is said of when this comes.
-    #[error("out of memory")]
-    Memory,
-    /// 9: the query is none of those that the engine answers today.
-    #[error("not built")]
-    NotBuilt,
-}
-
-impl From<AllocError> for QueryError {
-    ghost use Rattle.std.specs.Prelude.{◌≡◌};
-    ghost use Rattle.join_engine.specs.declared.engine.QueryError.TheVariants.{Memory};
-
-    ghost from_gives = { λ _ e. e ≡ Memory };
-
-    fn from(_error: AllocError) -> QueryError {
-        QueryError::Memory
-    }
-}
 
 impl From<ProbeError> for QueryError {
-    ghost use Rattle.join_engine.specs.Thin.{IsQueryErrorOf};
+    ghost use Rattle.join_engine.specs.Pairs.{IsQueryErrorOf};
 
     ghost from_gives = { IsQueryErrorOf };
 
@@ -61,14 +35,14 @@ pub struct Answer {
     pub groups: Frame,
 }
 
-// The answer to a thin query whose sides are not too large.
-fn thin_answer(
+// The answer to a simple query whose sides are not too large.
+fn simple_answer(
     alloc: Global,
     query: &Query,
     build: &[Frame],
     probe: &[Frame],
 ) -> Result<Answer, QueryError>
-    requires thin { IsThin query.now build.now probe.now }
+    requires simple { IsSimple query.now build.now probe.now }
     requires few_build { is_too_large build.now ≡ false }
     requires few_probe { is_too_large probe.now ≡ false }
     ensures rows { IfOk result (λ a. a.rows ≡ answer_rows query.now build.now probe.now) }
@@ -84,8 +58,11 @@ fn thin_answer(
 
 /// Joins, filters, groups and reduces the rows of whole frames: Ok holds exactly the two answer tables.
 ///
+/// What `check_query` refuses is refused by the same cause. A joined list that is longer than the plan allows is found as it is
+/// written, so memory may end first; a query without a refusal is answered, unless memory ends.
+///
 /// A step is a search in a map of keys; these loops make none.
-#[tactic(auto, using(crate::proofs::Thinness::thin_parts, crate::proofs::Refused::causes))]
+#[tactic(auto, using(crate::proofs::Parts::checked))]
 pub fn stream_join_aggregate<L: Ledger>(
     alloc: Global,
     query: &Query,
@@ -95,18 +72,12 @@ pub fn stream_join_aggregate<L: Ledger>(
 ) -> Result<Answer, QueryError>
     ensures rows { IfOk result (λ a. a.rows ≡ answer_rows query.now build.now probe.now) }
     ensures groups { IfOk result (λ a. a.groups ≡ answer_groups query.now build.now probe.now) }
-    ensures accepted { IfOk result (λ _. thin_refusal query.now build.now probe.now ≡ None) }
-    ensures refused { IfErr result (λ e. (e ≡ QueryError.Memory) ⊎ (thin_refusal query.now build.now probe.now ≡ Some e)) }
-    ensures valid { IfOk result (λ _. refusal_of query.now build.now probe.now ≡ None) }
-    ensures too_large { result ≡ Err QueryError.TooLarge → refusal_of query.now build.now probe.now ≡ Some TooLarge }
-    ensures not_built { (result ≡ Err QueryError.NotBuilt) ↔ (is_thin query.now build.now probe.now ≡ false) }
+    ensures accepted { IfOk result (λ _. refusal_of query.now build.now probe.now ≡ None) }
+    ensures refused { IfErr result (λ e. (e ≡ QueryError.Memory) ⊎ (refusal_of query.now build.now probe.now ≡ Some e)) }
+    ensures memory { result ≡ Err QueryError.Memory → checked_refusal query.now build.now probe.now ≡ None }
+    ensures complete { refusal_of query.now build.now probe.now ≡ None → IsOk result ⊎ (result ≡ Err QueryError.Memory) }
     ensures steps { steps.new ≡ steps.old }
 {
-    if !is_thin_query(query, build, probe) {
-        return Err(QueryError::NotBuilt);
-    }
-    if has_too_many(build) || has_too_many(probe) {
-        return Err(QueryError::TooLarge);
-    }
-    Ok(thin_answer(alloc, query, build, probe)?)
+    check_query(query, build, probe)?;
+    simple_answer(alloc, query, build, probe)
 }

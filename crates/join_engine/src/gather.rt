@@ -1,7 +1,7 @@
 //! Rows of frames gathered by their places, column by column.
 ghost use Rattle.std.specs.Prelude.{◌≡◌, ◌<◌, ◌++◌, length, IfOk, OnOk, map};
 ghost use Rattle.std.specs.List.{All};
-ghost use Rattle.col_core.specs.Tables.{IsBuildable, header, rows_from, values_of};
+ghost use Rattle.col_core.specs.Tables.{header, rows_from, values_of};
 ghost use Rattle.join_engine.specs.Places.{IsPlace, AllHave, gathered, gathered_column};
 
 use crate::places::RowPlace;
@@ -20,7 +20,6 @@ fn gather_column(
     requires have { AllHave schema.now frames.now }
     requires places { All (IsPlace frames.now) places.now }
     requires column { c < length schema.now }
-    requires built { All (λ f. IsBuildable f.dtype) schema.now }
     ensures { IfOk result (λ s. s ≡ gathered_column prefix.now schema.now frames.now places.now c) }
 {
     let field = schema.field(c);
@@ -44,7 +43,6 @@ pub fn gather(
 ) -> Result<(), AllocError>
     requires have { AllHave schema.now frames.now }
     requires places { All (IsPlace frames.now) places.now }
-    requires built { All (λ f. IsBuildable f.dtype) schema.now }
     ensures { OnOk result (columns.new.items ≡ columns.old.items ++ gathered prefix.now schema.now frames.now places.now) }
 {
     for c in 0..schema.len() {

@@ -4,12 +4,12 @@ ghost use Rattle.std.specs.List.{All};
 ghost use Rattle.col_core.specs.declared.data_type.DataType.TheVariants.{Int64};
 ghost use Rattle.col_core.specs.declared.leaf.Leaf.TheVariants.{Whole};
 ghost use Rattle.col_core.specs.Values.{Fits, value_at};
-ghost use Rattle.col_core.specs.Tables.{IsBuildable};
 ghost use Rattle.col_core.specs.Schemas.{type_named};
 ghost use Rattle.join_model.specs.Filtered.{schema_of, ref_value};
 ghost use Rattle.join_model.specs.Groups.{ref_type, group_rows};
+ghost use Rattle.join_model.specs.Refusals.{is_one_sum};
 ghost use Rattle.join_model.specs.Answers.{joined_schema, group_schema, ref_name, kind_prefix};
-ghost use Rattle.join_engine.specs.Thin.{is_thin_group, are_thin_reductions};
+ghost use Rattle.join_engine.specs.Simple.{is_one_column};
 ghost use Rattle.join_engine.specs.Totals.{totals_table};
 
 use crate::gather::frame_of_columns;
@@ -18,15 +18,12 @@ use col_core::{ColumnBuilder, DataType, Frame, Leaf, List, Name, Series};
 use join_model::{ColumnRef, Query, Reduction, ReductionKind, Side};
 use std::alloc::{AllocError, Global};
 
-#[tactic(auto, using(crate::proofs::Columns::built_found))]
 /// The column of joined rows that a reference names. Its side has such a column.
 fn joined_column<'a>(query: &Query, rows: &'a Frame, column: &ColumnRef) -> &'a Series
     requires joined { rows.now.schema ≡ joined_schema query.now }
     requires known { is_some (type_named column.now.name (schema_of query.now column.now.side)) ≡ true }
-    requires built { All (λ f. IsBuildable f.dtype) rows.now.schema }
     ensures values { result.now.values ≡ map (ref_value query.now column.now) rows.now.rows }
     ensures dtype { result.now.dtype ≡ ref_type query.now column.now }
-    ensures built { IsBuildable result.now.dtype }
 {
     let name = column.name.as_str();
     let place = match column.side {
@@ -77,7 +74,6 @@ fn key_column(
     name: Name,
     dtype: DataType,
 ) -> Result<Series, AllocError>
-    requires built { IsBuildable dtype }
     requires single { All (λ k. length k ≡ 1) keys.now }
     requires fits { All (λ k. Fits dtype (value_at k 0)) keys.now }
     ensures { IfOk result (λ s. s ≡ record { name = name; dtype = dtype; values = map (λ k. value_at k 0) keys.now }) }
@@ -108,7 +104,6 @@ fn totals_frame(
     dtype: DataType,
     sum: Name,
 ) -> Result<Frame, AllocError>
-    requires built { IsBuildable dtype }
     requires same { length totals.now.keys.items ≡ length totals.now.totals.items }
     requires single { All (λ k. length k ≡ 1) totals.now.keys.items }
     requires fits { All (λ k. Fits dtype (value_at k 0)) totals.now.keys.items }
@@ -123,9 +118,8 @@ fn totals_frame(
 /// One row per group of joined rows, by first appearance, for a query with one group key and one sum of an `Int64` column.
 pub fn group_frame(alloc: Global, query: &Query, rows: &Frame) -> Result<Frame, AllocError>
     requires joined { rows.now.schema ≡ joined_schema query.now }
-    requires built { All (λ f. IsBuildable f.dtype) rows.now.schema }
-    requires group { is_thin_group query.now query.now.group_keys ≡ true }
-    requires reductions { are_thin_reductions query.now query.now.reductions ≡ true }
+    requires group { is_one_column query.now query.now.group_keys ≡ true }
+    requires sum { is_one_sum query.now query.now.reductions ≡ true }
     ensures { IfOk result (λ f. f ≡ record { schema = group_schema query.now; rows = group_rows query.now rows.now.rows }) }
 {
     let group = &query.group_keys.as_slice()[0];

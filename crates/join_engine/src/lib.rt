@@ -1,16 +1,20 @@
 //! The join: the rows of both sides that join, their groups, and the two answer tables.
 #![tactic(auto)]
 
+mod check;
 mod engine;
 mod gather;
 mod grouping;
 mod keys;
+mod named;
 mod pairs;
 mod places;
-mod thin;
+mod schemas;
 mod totals;
 
-pub use engine::{Answer, QueryError, stream_join_aggregate};
+pub use check::check_query;
+pub use engine::{Answer, stream_join_aggregate};
 pub use join_model::{
-    ColumnRef, Filter, FilterOp, IntLiteral, Operand, Plan, Query, Reduction, ReductionKind, Side,
+    ColumnRef, Filter, FilterOp, IntLiteral, Operand, Plan, Query, QueryError, Reduction,
+    ReductionKind, Side,
 };

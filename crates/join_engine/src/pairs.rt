@@ -3,16 +3,15 @@ ghost use Rattle.std.specs.Prelude.{◌⊎◌, true, false, ◌≡◌, ◌<◌, 
 ghost use Rattle.join_model.specs.Joined.{rows_of, joined_rows};
 ghost use Rattle.join_model.specs.Refusals.{is_too_large, lists_too_many};
 ghost use Rattle.join_engine.specs.Pairs.{pairs_of, matched, ProbeFails, keyed_at, pair_row, IsPair, IsKeyedSide};
-ghost use Rattle.join_engine.specs.Thin.{IsThin, is_thin_key};
+ghost use Rattle.join_engine.specs.Simple.{IsSimple, is_one_name};
 ghost use Rattle.join_engine.specs.Places.{IsPlace, AllHave};
 ghost use Rattle.join_model.specs.Answers.{joined_schema};
-ghost use Rattle.col_core.specs.Tables.{IsBuildable};
 ghost use Rattle.std.specs.List.{All};
 
 use crate::gather::{frame_of_columns, gather};
 use crate::keys::{is_null_leaf, same_leaf};
+use crate::named::key_place;
 use crate::places::{RowPlace, places, value_of};
-use crate::thin::key_place;
 use col_core::{Frame, Leaf, Name, Schema};
 use join_model::Query;
 use std::alloc::{AllocError, AllocFailed, Global};
@@ -134,7 +133,7 @@ fn keyed_side(
     frames: &[Frame],
 ) -> Result<Vec<Keyed>, AllocError>
     requires have { AllHave schema.now frames.now }
-    requires key { is_thin_key schema.now names.now ≡ true }
+    requires key { is_one_name schema.now names.now ≡ true }
     requires few { is_too_large frames.now ≡ false }
     ensures { IfOk result (λ v. IsKeyedSide schema.now names.now frames.now v.items) }
 {
@@ -143,14 +142,14 @@ fn keyed_side(
     Ok(rows_with_keys(alloc, frames, schema, &places, c)?)
 }
 
-/// The pairs of a thin query: for each probe row in turn, the build rows that it joins, in build order.
+/// The pairs of a simple query: for each probe row in turn, the build rows that it joins, in build order.
 pub fn joined_pairs(
     alloc: Global,
     query: &Query,
     build: &[Frame],
     probe: &[Frame],
 ) -> Result<Vec<Pair>, ProbeError>
-    requires thin { IsThin query.now build.now probe.now }
+    requires simple { IsSimple query.now build.now probe.now }
     requires few_build { is_too_large build.now ≡ false }
     requires few_probe { is_too_large probe.now ≡ false }
     ensures rows { IfOk result (λ v. map (pair_row probe.now build.now) v.items ≡ joined_rows query.now (rows_of build.now) (rows_of probe.now)) }
@@ -195,8 +194,6 @@ pub fn join_rows(
 ) -> Result<Frame, AllocError>
     requires build_have { AllHave query.now.build_schema build.now }
     requires probe_have { AllHave query.now.probe_schema probe.now }
-    requires build_built { All (λ f. IsBuildable f.dtype) query.now.build_schema }
-    requires probe_built { All (λ f. IsBuildable f.dtype) query.now.probe_schema }
     requires pairs { All (IsPair probe.now build.now) pairs.now }
     ensures { IfOk result (λ f. f ≡ record { schema = joined_schema query.now; rows = map (pair_row probe.now build.now) pairs.now }) }
 {

@@ -1,5 +1,5 @@
 -- The first cause for which a query and its frames are refused.
-use Rattle.std.specs.Prelude.{ℕ, ◌+◌, ◌^◌, ◌%◌, ◌==◌, nat_lt, nat_le, Bool, true, false, ◌||◌, ◌&&◌, not, if◌then◌else◌, List, [], ◌∷◌, ◌++◌, map, length, Option, Some, None, position, is_none}
+use Rattle.std.specs.Prelude.{ℕ, ◌+◌, ◌^◌, ◌%◌, ◌==◌, nat_lt, nat_le, Bool, true, false, ◌||◌, ◌&&◌, not, if◌then◌else◌, List, [], ◌∷◌, ◌++◌, map, length, Option, Some, None, position, is_none, is_some}
 use Rattle.std.specs.List.{list_any}
 use Rattle.std.specs.Option.{option_map_or, option_map}
 use Rattle.std.specs.Str.{bytes_eq}
@@ -7,15 +7,20 @@ use Rattle.std.specs.Cmp.Lexicographic.{pointwise}
 use Rattle.list_laws.specs.Distinct.{has_repeat}
 use Rattle.col_core.specs.declared.schema.Field.{Field}
 use Rattle.col_core.specs.declared.data_type.DataType.{DataType}
-use Rattle.col_core.specs.declared.data_type.DataType.TheVariants.{Int8, Int16, Int32, Int64, UInt8, UInt16, UInt32, UInt64, Binary}
+use Rattle.col_core.specs.declared.data_type.DataType.TheVariants.{Int8, Int16, Int32, Int64, UInt8, UInt16, UInt32, UInt64, String, Binary}
 use Rattle.col_core.specs.Tables.{Table}
 use Rattle.col_core.specs.Schemas.{dtype_eq, schema_eq, type_named}
+use Rattle.reduce_model.specs.declared.kind.ReductionKind.{ReductionKind}
+use Rattle.reduce_model.specs.declared.kind.ReductionKind.TheVariants as kinds
 use Rattle.reduce_model.specs.Folds.{is_unsupported}
+use Rattle.join_model.specs.declared.error.QueryError.{QueryError}
+use Rattle.join_model.specs.declared.error.QueryError.TheVariants.{NoKeyColumns, UnknownColumn, SchemaMismatch, UnsupportedReduction, UnsupportedFilter, BadPlan, TooLarge, NotBuilt}
 use Rattle.join_model.specs.declared.query.Query.{Query}
 use Rattle.join_model.specs.declared.query.Plan.{Plan}
 use Rattle.join_model.specs.declared.query.Side.TheVariants as sides
 use Rattle.join_model.specs.declared.query.ColumnRef.{ColumnRef}
 use Rattle.join_model.specs.declared.query.Filter.{Filter}
+use Rattle.join_model.specs.declared.query.Reduction.{Reduction}
 use Rattle.join_model.specs.declared.query.IntLiteral.{IntLiteral}
 use Rattle.join_model.specs.declared.query.IntLiteral.TheVariants as literals
 use Rattle.join_model.specs.declared.query.Operand.{Operand}
@@ -24,19 +29,13 @@ use Rattle.join_model.specs.Joined.{rows_of, joined_rows}
 use Rattle.join_model.specs.Filtered.{schema_of}
 use Rattle.join_model.specs.Groups.{ref_type}
 
--- the causes, in their order
-pub data Refusal : Type 0 where
-  NoKeyColumns : Refusal
-  UnknownColumn : ℕ → Refusal
-  SchemaMismatch : Refusal
-  UnsupportedReduction : ℕ → Refusal
-  UnsupportedFilter : Refusal
-  BadPlan : Refusal
-  TooLarge : Refusal
-
 abbrev pub is_empty : {X : Type 0} → List X → Bool
 is_empty [] = true
 is_empty (x ∷ xs) = false
+
+-- a join key list of either side, or the group key list, is empty
+abbrev pub lacks_keys : Query → Bool
+lacks_keys q = is_empty q.build_keys || is_empty q.probe_keys || is_empty q.group_keys
 
 abbrev pub operand_columns : Operand → List ColumnRef
 operand_columns (operands.Column ref) = ref ∷ []
@@ -118,30 +117,68 @@ is_good_plan plan = is_within plan.partitions 65536 && is_within plan.states 655
     && is_within plan.limit 2147483647 && is_within plan.morsel 2147483647
     && is_within plan.rows 4294967295 && (plan.pseed % 2 == 1)
 
+abbrev pub is_int64 : DataType → Bool
+is_int64 Int64 = true
+is_int64 _ = false
+
+abbrev pub is_sum : ReductionKind → Bool
+is_sum kinds.Sum = true
+is_sum _ = false
+
+-- a join key of more than one column, or of a column that is not `Int64`
+abbrev pub is_key_not_built : List Field → List (List ℕ) → Bool
+is_key_not_built schema names = nat_lt 1 (length names) || list_any (λ t. not (is_int64 t)) (types_named schema names)
+
+abbrev pub is_group_type : DataType → Bool
+is_group_type Int64 = true
+is_group_type String = true
+is_group_type _ = false
+
+-- more than one group key, or one that is neither `Int64` nor `String`
+abbrev pub is_group_not_built : Query → List ColumnRef → Bool
+is_group_not_built q refs = nat_lt 1 (length refs) || list_any (λ ref. not (is_group_type (ref_type q ref))) refs
+
+-- exactly one sum, of an `Int64` column
+abbrev pub is_one_sum : Query → List Reduction → Bool
+is_one_sum q (r ∷ []) = is_sum r.kind && is_int64 (ref_type q r.column)
+is_one_sum q _ = false
+
+-- what the engine does not answer today: other join keys, kept rows, a filter, other group keys, other reductions
+abbrev pub is_not_built : Query → Bool
+is_not_built q = is_key_not_built q.build_schema q.build_keys || is_key_not_built q.probe_schema q.probe_keys
+    || q.null_equal || q.keep_probe || q.keep_build || is_some q.filter
+    || is_group_not_built q q.group_keys || not (is_one_sum q q.reductions)
+
 -- a side has 2^31 or more frames or rows
 abbrev pub is_too_large : List Table → Bool
 is_too_large frames = nat_le 2147483648 (length frames) || nat_le 2147483648 (length (rows_of frames))
 
+-- the joined list before the filter is longer than the plan allows
 abbrev pub lists_too_many : Query → List Table → List Table → Bool
 lists_too_many q build probe = nat_lt q.plan.rows (length (joined_rows q (rows_of build) (rows_of probe)))
 
-abbrev pub when : Bool → Refusal → Option Refusal
-when b refusal = if b then Some refusal else None
+abbrev pub when : Bool → QueryError → Option QueryError
+when b cause = if b then Some cause else None
 
 -- the first that there is
-abbrev pub first_of : List (Option Refusal) → Option Refusal
+abbrev pub first_of : List (Option QueryError) → Option QueryError
 first_of [] = None
 first_of (None ∷ rest) = first_of rest
-first_of (Some refusal ∷ rest) = Some refusal
+first_of (Some cause ∷ rest) = Some cause
 
--- the first cause, with its kept number; the list before the filter counts for the last
-abbrev pub refusal_of : Query → List Table → List Table → Option Refusal
-refusal_of q build probe = first_of (
-    when (is_empty q.build_keys || is_empty q.probe_keys || is_empty q.group_keys) NoKeyColumns
+-- the first cause that shows before any row is read, with its kept number
+abbrev pub checked_refusal : Query → List Table → List Table → Option QueryError
+checked_refusal q build probe = first_of (
+    when (lacks_keys q) NoKeyColumns
     ∷ option_map UnknownColumn (unknown_column q)
     ∷ when (schemas_differ q build probe) SchemaMismatch
     ∷ option_map UnsupportedReduction (unsupported_reduction q)
     ∷ when (filter_is_unsupported q) UnsupportedFilter
     ∷ when (not (is_good_plan q.plan)) BadPlan
-    ∷ when (is_too_large build || is_too_large probe || lists_too_many q build probe) TooLarge
+    ∷ when (is_not_built q) NotBuilt
+    ∷ when (is_too_large build || is_too_large probe) TooLarge
     ∷ [])
+
+-- the first cause of all: the length of the joined list is the last
+abbrev pub refusal_of : Query → List Table → List Table → Option QueryError
+refusal_of q build probe = first_of (checked_refusal q build probe ∷ when (lists_too_many q build probe) TooLarge ∷ [])

@@ -1,13 +1,17 @@
 //! Worked answers of the definitions of `specs/`. Each function has an empty body: its clauses are what it is for.
-ghost use Rattle.std.specs.Prelude.{◌≡◌, [], ◌∷◌, ◌++◌, map, codes, Some, None};
+ghost use Rattle.std.specs.Prelude.{◌≡◌, pos, true, [], ◌∷◌, ◌++◌, map, codes, Some, None};
 ghost use Rattle.col_core.specs.declared.leaf.Leaf.TheVariants.{Null};
 ghost use Rattle.col_core.specs.declared.data_type.DataType.TheVariants.{Int8, Int64, Boolean, String, Date, Decimal};
 ghost use Rattle.join_model.specs.Joined.{rows_of, joined_rows};
 ghost use Rattle.join_model.specs.Answers.{answer_rows, answer_groups};
-ghost use Rattle.join_model.specs.Refusals.{refusal_of, NoKeyColumns, UnknownColumn, SchemaMismatch, UnsupportedReduction, UnsupportedFilter, BadPlan, TooLarge};
+ghost use Rattle.join_model.specs.Refusals.{checked_refusal, refusal_of};
+ghost use Rattle.join_model.specs.declared.error.QueryError.TheVariants.{NoKeyColumns, UnknownColumn, SchemaMismatch, UnsupportedReduction, UnsupportedFilter, BadPlan, TooLarge, NotBuilt};
+ghost use Rattle.join_model.specs.declared.query.FilterOp.TheVariants.{Eq};
+ghost use Rattle.join_model.specs.declared.query.Operand.TheVariants.{Column, Literal};
+ghost use Rattle.join_model.specs.declared.query.IntLiteral.TheVariants.{I64};
 ghost use Rattle.join_model.specs.Examples.{inner_query, outer_query, null_key_query, null_joins_query, filter_query, report_query, customers, orders, customer_frames, order_frames, fewer_orders, keyed_build, keyed_probe, region_frames, sales_frames, field, table, two_numbers, customer, build_column, probe_column, reduction, default_plan};
 ghost use Rattle.reduce_model.specs.Examples.{number, minus, text};
-ghost use Rattle.reduce_model.specs.declared.kind.ReductionKind.TheVariants.{Sum};
+ghost use Rattle.reduce_model.specs.declared.kind.ReductionKind.TheVariants.{Sum, Min};
 
 /// An inner join: each probe row beside each build row of its key, in build order; groups by first appearance.
 pub fn inner_join_example()
@@ -81,12 +85,26 @@ pub fn refusal_examples()
     ensures no_keys { refusal_of (record inner_query { group_keys = []; reductions = reduction Sum (probe_column (codes "zzz")) ∷ [] }) customer_frames order_frames ≡ Some NoKeyColumns }
     ensures unknown_key { refusal_of (record inner_query { build_keys = codes "nope" ∷ [] }) customer_frames order_frames ≡ Some (UnknownColumn 0) }
     ensures unknown_reduction { refusal_of (record inner_query { reductions = reduction Sum (probe_column (codes "zzz")) ∷ [] }) customer_frames order_frames ≡ Some (UnknownColumn 3) }
+    ensures after_a_literal { refusal_of (record inner_query { filter = Some (record { op = Eq; left = probe_column (codes "amt"); right = Literal (I64 (pos 5)) }); group_keys = probe_column (codes "zzz") ∷ [] }) customer_frames order_frames ≡ Some (UnknownColumn 3) }
     ensures other_type { refusal_of (record inner_query { build_keys = codes "name" ∷ [] }) customer_frames order_frames ≡ Some SchemaMismatch }
     ensures other_frame { refusal_of inner_query customer_frames customer_frames ≡ Some SchemaMismatch }
     ensures repeated_name { refusal_of (record inner_query { probe_schema = orders ++ orders }) [] [] ≡ Some SchemaMismatch }
     ensures no_sum { refusal_of (record inner_query { probe_schema = field (codes "cust") Int64 ∷ field (codes "amt") Boolean ∷ [] }) [] [] ≡ Some (UnsupportedReduction 0) }
+    ensures filter_of_texts { refusal_of (record inner_query { filter = Some (record { op = Eq; left = build_column (codes "name"); right = Column (build_column (codes "name")) }) }) customer_frames order_frames ≡ Some UnsupportedFilter }
     ensures bad_plan { refusal_of (record inner_query { plan = record default_plan { partitions = 0 } }) customer_frames order_frames ≡ Some BadPlan }
     ensures even_factor { refusal_of (record inner_query { plan = record default_plan { pseed = 2 } }) customer_frames order_frames ≡ Some BadPlan }
     ensures too_large { refusal_of (record inner_query { plan = record default_plan { rows = 2 } }) customer_frames order_frames ≡ Some TooLarge }
+    ensures too_large_unchecked { checked_refusal (record inner_query { plan = record default_plan { rows = 2 } }) customer_frames order_frames ≡ None }
     ensures just_fits { refusal_of (record inner_query { plan = record default_plan { rows = 3 } }) customer_frames order_frames ≡ None }
+{}
+
+/// What the engine does not answer today, which comes before the length of the joined list.
+pub fn not_built_examples()
+    ensures kept_rows { refusal_of (record inner_query { keep_probe = true; plan = record default_plan { rows = 2 } }) customer_frames order_frames ≡ Some NotBuilt }
+    ensures least { refusal_of (record inner_query { reductions = reduction Min (probe_column (codes "amt")) ∷ [] }) customer_frames order_frames ≡ Some NotBuilt }
+    ensures other_sum { refusal_of (record inner_query { probe_schema = field (codes "cust") Int64 ∷ field (codes "amt") Int8 ∷ [] }) [] [] ≡ Some NotBuilt }
+    ensures no_reduction { refusal_of (record inner_query { reductions = [] }) customer_frames order_frames ≡ Some NotBuilt }
+    ensures other_group { refusal_of (record inner_query { probe_schema = orders ++ field (codes "day") Date ∷ []; group_keys = probe_column (codes "day") ∷ [] }) [] [] ≡ Some NotBuilt }
+    ensures other_column { refusal_of (record inner_query { probe_schema = orders ++ field (codes "day") Date ∷ [] }) [] [] ≡ None }
+    ensures two_keys { refusal_of (record inner_query { build_keys = codes "id" ∷ codes "id" ∷ []; probe_keys = codes "cust" ∷ codes "amt" ∷ [] }) customer_frames order_frames ≡ Some NotBuilt }
 {}

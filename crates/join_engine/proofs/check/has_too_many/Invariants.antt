@@ -1,6 +1,6 @@
 use Rattle.std.proofs.Common.{◌≡◌, ◌+◌, ◌<◌, length, drop}
 use Rattle.join_model.specs.Joined.{rows_of}
-use Rattle.join_engine.proofs.thin.has_too_many.Given as goal
+use Rattle.join_engine.proofs.check.has_too_many.Given as goal
 
 abbrev pub invariant-loop-frame : goal.invariant-loop-frame
 invariant-loop-frame l = record {

@@ -1,6 +1,6 @@
 use Rattle.std.proofs.Common.{◌≡◌, drop}
 use Rattle.join_model.specs.Refusals.{repeats_name}
-use Rattle.join_engine.proofs.thin.has_repeated_name.Given as goal
+use Rattle.join_engine.proofs.schemas.has_repeated_name.Given as goal
 
 -- what is left decides
 abbrev pub invariant-loop-i : goal.invariant-loop-i

@@ -1,0 +1,203 @@
+//! The causes of a refusal that show before any row is read.
+ghost use Rattle.std.specs.Prelude.{◌≡◌, not};
+ghost use Rattle.std.specs.List.{list_any};
+ghost use Rattle.std.specs.Result.{result_err};
+ghost use Rattle.reduce_model.specs.Folds.{has_no_sum, is_unsupported};
+ghost use Rattle.join_model.specs.Groups.{ref_type};
+ghost use Rattle.join_model.specs.Refusals.{lacks_keys, unsupported_reduction, is_integer, filter_is_unsupported, is_good_plan, is_int64, is_key_not_built, is_group_type, is_group_not_built, is_one_sum, is_not_built, is_too_large, checked_refusal};
+
+use crate::named::{column_type, type_under, unknown_place};
+use crate::schemas::has_mismatch;
+use col_core::{DataType, Frame, Name, Schema};
+use join_model::{ColumnRef, Plan, Query, QueryError, Reduction, ReductionKind};
+
+fn lacks_key_columns(query: &Query) -> bool
+    ensures { result ≡ lacks_keys query.now }
+{
+    query.build_keys.as_slice().is_empty()
+        || query.probe_keys.as_slice().is_empty()
+        || query.group_keys.as_slice().is_empty()
+}
+
+fn has_no_sums(dtype: DataType) -> bool
+    ensures { result ≡ has_no_sum dtype }
+{
+    matches!(
+        dtype,
+        DataType::Boolean
+            | DataType::Int128
+            | DataType::Date
+            | DataType::Time
+            | DataType::Datetime(_)
+    )
+}
+
+fn is_unsupported_kind(kind: ReductionKind, dtype: DataType) -> bool
+    ensures { result ≡ is_unsupported kind dtype }
+{
+    matches!(kind, ReductionKind::Sum) && has_no_sums(dtype)
+}
+
+// The place of the first reduction that there is not.
+fn unsupported_place(query: &Query) -> Option<usize>
+    ensures { result ≡ unsupported_reduction query.now }
+{
+    let reductions = query.reductions.as_slice();
+    reductions.iter().position(|reduction| is_unsupported_kind(
+        reduction.kind,
+        column_type(query, &reduction.column),
+    ))
+}
+
+fn is_integer_type(dtype: DataType) -> bool
+    ensures { result ≡ is_integer dtype }
+{
+    matches!(
+        dtype,
+        DataType::Int8
+            | DataType::Int16
+            | DataType::Int32
+            | DataType::Int64
+            | DataType::UInt8
+            | DataType::UInt16
+            | DataType::UInt32
+            | DataType::UInt64
+    )
+}
+
+fn has_unsupported_filter(query: &Query) -> bool
+    ensures { result ≡ filter_is_unsupported query.now }
+{
+    match &query.filter {
+        Some(filter) => !is_integer_type(column_type(query, &filter.left)),
+        None => false,
+    }
+}
+
+fn has_good_numbers(plan: &Plan) -> bool
+    ensures { result ≡ is_good_plan plan.now }
+{
+    (1..=65536).contains(&plan.partitions)
+        && (1..=65536).contains(&plan.states)
+        && (1..=2147483647).contains(&plan.limit)
+        && (1..=2147483647).contains(&plan.morsel)
+        && (1..=4294967295).contains(&plan.rows)
+        && plan.pseed % 2 == 1
+}
+
+fn has_int64_type(dtype: DataType) -> bool
+    ensures { result ≡ is_int64 dtype }
+{
+    matches!(dtype, DataType::Int64)
+}
+
+// Whether a join key has more than one column, or one that is not `Int64`.
+fn is_other_key(schema: &Schema, names: &[Name]) -> bool
+    ensures { result ≡ is_key_not_built schema.now names.now }
+{
+    names.len() > 1
+        || names
+            .iter()
+            .any(|name| !has_int64_type(type_under(schema, name)))
+}
+
+fn has_group_type(dtype: DataType) -> bool
+    ensures { result ≡ is_group_type dtype }
+{
+    matches!(dtype, DataType::Int64 | DataType::String)
+}
+
+fn is_of_other_type(query: &Query, column: &ColumnRef) -> bool
+    ensures { result ≡ not (is_group_type (ref_type query.now column.now)) }
+{
+    !has_group_type(column_type(query, column))
+}
+
+fn has_other_type(query: &Query, columns: &[ColumnRef]) -> bool
+    ensures { result ≡ list_any (λ ref. not (is_group_type (ref_type query.now ref))) columns.now }
+{
+    columns.iter().any(|column| is_of_other_type(query, column))
+}
+
+// Whether there is more than one group key, or one that is neither `Int64` nor `String`.
+fn is_other_group(query: &Query, columns: &[ColumnRef]) -> bool
+    ensures { result ≡ is_group_not_built query.now columns.now }
+{
+    columns.len() > 1 || has_other_type(query, columns)
+}
+
+fn has_one_sum(query: &Query, reductions: &[Reduction]) -> bool
+    ensures { result ≡ is_one_sum query.now reductions.now }
+{
+    match reductions {
+        [reduction] => matches!(reduction.kind, ReductionKind::Sum)
+            && has_int64_type(column_type(query, &reduction.column)),
+        _ => false,
+    }
+}
+
+// Whether the engine does not answer such queries today.
+fn is_unbuilt(query: &Query) -> bool
+    ensures { result ≡ is_not_built query.now }
+{
+    is_other_key(&query.build_schema, query.build_keys.as_slice())
+        || is_other_key(&query.probe_schema, query.probe_keys.as_slice())
+        || query.null_equal
+        || query.keep_probe
+        || query.keep_build
+        || query.filter.is_some()
+        || is_other_group(query, query.group_keys.as_slice())
+        || !has_one_sum(query, query.reductions.as_slice())
+}
+
+// Whether a side has 2^31 or more frames or rows.
+#[tactic(auto, using(crate::proofs::Sides::steps))]
+fn has_too_many(frames: &[Frame]) -> bool
+    ensures { result ≡ is_too_large frames.now }
+{
+    const LIMIT: usize = 1 << 31;
+    if frames.len() >= LIMIT {
+        return true;
+    }
+    let mut rows = 0;
+    for frame in frames {
+        if frame.height() >= LIMIT - rows {
+            return true;
+        }
+        rows += frame.height();
+    }
+    false
+}
+
+/// Whether a query over these frames is refused before any row is read: the first cause of `checked_refusal`, with its place
+/// where it has one. No memory is taken. What is left to refuse is a joined list that is longer than the plan allows.
+pub fn check_query(query: &Query, build: &[Frame], probe: &[Frame]) -> Result<(), QueryError>
+    ensures first { result_err result ≡ checked_refusal query.now build.now probe.now }
+    ensures no_memory { ¬ (result ≡ Err QueryError.Memory) }
+{
+    if lacks_key_columns(query) {
+        return Err(QueryError::NoKeyColumns);
+    }
+    if let Some(position) = unknown_place(query) {
+        return Err(QueryError::UnknownColumn { position });
+    }
+    if has_mismatch(query, build, probe) {
+        return Err(QueryError::SchemaMismatch);
+    }
+    if let Some(index) = unsupported_place(query) {
+        return Err(QueryError::UnsupportedReduction { index });
+    }
+    if has_unsupported_filter(query) {
+        return Err(QueryError::UnsupportedFilter);
+    }
+    if !has_good_numbers(&query.plan) {
+        return Err(QueryError::BadPlan);
+    }
+    if is_unbuilt(query) {
+        return Err(QueryError::NotBuilt);
+    }
+    if has_too_many(build) || has_too_many(probe) {
+        return Err(QueryError::TooLarge);
+    }
+    Ok(())
+}
