@@ -1,17 +1,21 @@
 -- What follows where a source tells its bytes, and what a write of a line leaves.
-use Rattle.std.proofs.Common.{◌≡◌, ◌<◌, ◌≤◌, ◌⊎◌, ◌^◌, ℕ, ◌++◌, List, length, Option, Some, None, Result, Ok, Err, OnOk, OnErr, IfSome, inl, inr, refl, ap, sym, subst, ◌∙◌, arith, length-append}
+use Rattle.std.proofs.Common.{◌≡◌, ◌<◌, ◌≤◌, ◌⊎◌, ◌^◌, ℕ, ◌++◌, List, length, Option, Some, None, Result, Ok, Err, OnOk, OnErr, IfSome, IsOkAnd, inl, inr, refl, ap, sym, subst, ◌∙◌, arith, length-append}
 use Rattle.std.proofs.lemmas.List.{append-nil}
 use Rattle.std.proofs.Math.Seq.{take-length}
 use Rattle.std.specs.Io.KnownBytes.{prepend_known, append_known}
 use Rattle.byte_streams.specs.Faults.{Rose}
 use Rattle.byte_streams.specs.Whole.{GrowsByFront}
 use Rattle.byte_streams.specs.declared.whole.WriteFault.{WriteFault as Fault}
+use Rattle.join_request.specs.declared.error.RequestError.{RequestError}
 use Rattle.join_request.specs.declared.error.RequestError.TheVariants as requests
-use Rattle.join_engine.specs.declared.engine.QueryError.TheVariants as queries
+use Rattle.join_request.specs.declared.reader.Request.{Request as Command}
+use Rattle.join_request.specs.Request.{request_of}
+use Rattle.join_model.specs.Refusals.{refusal_of}
+use Rattle.join_model.specs.declared.error.QueryError.TheVariants as queries
 use Rattle.join_command.specs.declared.error.ToolError.{ToolError}
 use Rattle.join_command.specs.declared.error.ToolError.TheVariants.{Usage, ReadFault, TooLong, Request, Query, WriteFault, Memory}
 use Rattle.join_command.specs.Errors.{status_of}
-use Rattle.join_command.specs.Replies.{reply_to}
+use Rattle.join_command.specs.Replies.{text_of, text_unless, reply_of, reply_to, HasNoRefusal}
 use Rattle.join_command.specs.Runs.{WasRead, IsAnswered, IsRefused, IsReplied, WritesLine}
 
 -- a write of a line, whole or not
@@ -67,20 +71,38 @@ explained TooLong words bytes now f f' says none short sound =
     let within = taken_within bytes taken.0 now taken.1 in
     absurd (omega arith)
 explained (Request requests.Memory) words bytes now f f' says none short sound = inl refl
-explained (Request requests.NotJson) words bytes now f f' says none short sound = inr (refused_status bytes (Request requests.NotJson) now (says.refused (omega arith) (omega arith)))
-explained (Request requests.Float) words bytes now f f' says none short sound = inr (refused_status bytes (Request requests.Float) now (says.refused (omega arith) (omega arith)))
-explained (Request requests.NotBuilt) words bytes now f f' says none short sound = inr (refused_status bytes (Request requests.NotBuilt) now (says.refused (omega arith) (omega arith)))
+explained (Request r) words bytes now f f' says none short sound = inr (refused_status bytes (Request r) now (says.refused (omega arith) (omega arith)))
 explained (Query queries.Memory) words bytes now f f' says none short sound = inl refl
-explained (Query queries.TooLarge) words bytes now f f' says none short sound = inr (refused_status bytes (Query queries.TooLarge) now (says.refused (omega arith) (omega arith)))
-explained (Query queries.NotBuilt) words bytes now f f' says none short sound = inr (refused_status bytes (Query queries.NotBuilt) now (says.refused (omega arith) (omega arith)))
+explained (Query q) words bytes now f f' says none short sound = inr (refused_status bytes (Query q) now (says.refused (omega arith) (omega arith)))
 explained WriteFault words bytes now f f' says none short sound =
     let a = says.front refl in
     inr (subst (λ (r : Result (List ℕ) ToolError). IsReplied r 7) (sym (answered_replied bytes a.0 now a.1)) (inr refl))
 explained Memory words bytes now f f' says none short sound = inl refl
 
 -- a request without a fault has its reply, unless memory runs out
-pub complete : (e : ToolError) (words : ℕ) (before now : Option (List ℕ)) (faults_before faults_now : ℕ)
+pub replied : (e : ToolError) (words : ℕ) (before now : Option (List ℕ)) (faults_before faults_now : ℕ)
     → Says e words before now faults_before faults_now
     → IfSome before (λ bytes. words ≡ 0 → length bytes ≤ 2 ^ 28 → ¬ Rose faults_before faults_now → (status_of e ≡ 8) ⊎ IsReplied (reply_to bytes) (status_of e))
-complete e words None now faults_before faults_now says = tt
-complete e words (Some bytes) now faults_before faults_now says = λ none short sound. explained e words bytes now faults_before faults_now says none short sound
+replied e words None now faults_before faults_now says = tt
+replied e words (Some bytes) now faults_before faults_now says = λ none short sound. explained e words bytes now faults_before faults_now says none short sound
+
+-- the reply to a request whose query has no refusal is a text
+text_replied : (read : Result Command RequestError) → IsOkAnd read (λ r. refusal_of r.query r.build r.probe ≡ None) → (text : List ℕ) × (reply_of read ≡ Ok text)
+text_replied (Ok r) none = (text_of r, ap (text_unless (text_of r)) none)
+text_replied (Err e) none = absurd none
+
+-- so a run that ends neither by want of memory nor by a fault of the sink has answered it
+valid_answered : (bytes : List ℕ) (status : ℕ) → HasNoRefusal bytes → ¬ (status ≡ 7) → (status ≡ 8) ⊎ IsReplied (reply_to bytes) status → (status ≡ 0) ⊎ (status ≡ 8)
+valid_answered bytes status valid sound (inl eight) = inr eight
+valid_answered bytes status valid sound (inr replied) =
+    let text = text_replied (request_of bytes) valid in
+    elim (subst (λ (reply : Result (List ℕ) ToolError). IsReplied reply status) text.1 replied) [
+      | inl zero ↦ inl zero
+      | inr seven ↦ absurd (sound seven)
+    ]
+
+pub complete : (status words : ℕ) (before : Option (List ℕ)) (ReadFails WriteFails : Type 0) → (status ≡ 7 → WriteFails)
+    → IfSome before (λ bytes. words ≡ 0 → length bytes ≤ 2 ^ 28 → ¬ ReadFails → (status ≡ 8) ⊎ IsReplied (reply_to bytes) status)
+    → IfSome before (λ bytes. words ≡ 0 → length bytes ≤ 2 ^ 28 → HasNoRefusal bytes → ¬ ReadFails → ¬ WriteFails → (status ≡ 0) ⊎ (status ≡ 8))
+complete status words None ReadFails WriteFails fault reply = tt
+complete status words (Some bytes) ReadFails WriteFails fault reply = λ none short valid reads writes. valid_answered bytes status valid (λ seven. writes (fault seven)) (reply none short reads)

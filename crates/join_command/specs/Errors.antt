@@ -1,9 +1,10 @@
 -- The exit status and the line of each cause why the program does not answer.
-use Rattle.std.specs.Prelude.{ℕ, List, codes, Result, Ok, Err}
+use Rattle.std.specs.Prelude.{ℕ, List, ◌++◌, codes, decimal, Result, Ok, Err}
 use Rattle.byte_streams.specs.declared.whole.ReadError.{ReadError}
 use Rattle.byte_streams.specs.declared.whole.ReadError.TheVariants as reads
 use Rattle.join_request.specs.declared.error.RequestError.TheVariants as requests
-use Rattle.join_engine.specs.declared.engine.QueryError.TheVariants as queries
+use Rattle.join_model.specs.declared.error.QueryError.{QueryError}
+use Rattle.join_model.specs.declared.error.QueryError.TheVariants as queries
 use Rattle.join_command.specs.declared.error.ToolError.{ToolError}
 use Rattle.join_command.specs.declared.error.ToolError.TheVariants.{Usage, ReadFault, TooLong, Request, Query, WriteFault, Memory}
 
@@ -18,18 +19,33 @@ status_of (Query _) = 6
 status_of WriteFault = 7
 status_of Memory = 8
 
--- the line, with its line feed
+-- the number and the name of a cause why a query is refused, and the place that it keeps
+abbrev pub query_text : QueryError → List ℕ
+query_text queries.NoKeyColumns = codes "query refused: 1 NoKeyColumns"
+query_text (queries.UnknownColumn position) = codes "query refused: 2 UnknownColumn " ++ decimal position
+query_text queries.SchemaMismatch = codes "query refused: 3 SchemaMismatch"
+query_text (queries.UnsupportedReduction index) = codes "query refused: 4 UnsupportedReduction " ++ decimal index
+query_text queries.UnsupportedFilter = codes "query refused: 5 UnsupportedFilter"
+query_text queries.BadPlan = codes "query refused: 6 BadPlan"
+query_text queries.TooLarge = codes "query refused: 7 TooLarge"
+query_text queries.NotBuilt = codes "query refused: 9 NotBuilt"
+query_text queries.Memory = codes "out of memory"
+
+abbrev pub cause_text : ToolError → List ℕ
+cause_text Usage = codes "usage: join_tool or join_tool gen N"
+cause_text ReadFault = codes "read fault"
+cause_text TooLong = codes "request too long"
+cause_text (Request requests.NotJson) = codes "not JSON"
+cause_text (Request requests.Float) = codes "float in request"
+cause_text (Request requests.Shape) = codes "not a request"
+cause_text (Request requests.Memory) = codes "out of memory"
+cause_text (Query e) = query_text e
+cause_text WriteFault = codes "write fault"
+cause_text Memory = codes "out of memory"
+
+-- the line that tells of a cause
 abbrev pub line_of : ToolError → List ℕ
-line_of Usage = codes "usage: join_tool or join_tool gen N\n"
-line_of ReadFault = codes "read fault\n"
-line_of TooLong = codes "request too long\n"
-line_of (Request requests.NotJson) = codes "not JSON\n"
-line_of (Request requests.Float) = codes "float in request\n"
-line_of (Request requests.NotBuilt) = codes "request not built\n"
-line_of (Query queries.TooLarge) = codes "query refused: 7 TooLarge\n"
-line_of (Query queries.NotBuilt) = codes "query refused: 9 NotBuilt\n"
-line_of WriteFault = codes "write fault\n"
-line_of _ = codes "out of memory\n"
+line_of e = cause_text e ++ codes "\n"
 
 -- the program's cause where reading stopped before the end
 abbrev pub error_of_read : ReadError → ToolError

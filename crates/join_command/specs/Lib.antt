@@ -6,4 +6,4 @@ pub use Rattle.byte_streams.specs.Whole
 pub use Rattle.join_request.specs.Request
 pub use Rattle.join_text.specs.Text
 pub use Rattle.join_model.specs.Answers
-pub use Rattle.join_engine.specs.Thin
+pub use Rattle.join_model.specs.Refusals

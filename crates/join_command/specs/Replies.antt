@@ -1,11 +1,11 @@
 -- What the bytes of a request mean: the text that answers it, or why there is none.
-use Rattle.std.specs.Prelude.{ℕ, ◌≡◌, ◌≤◌, ◌⊎◌, List, Option, Some, None, Result, Ok, Err}
+use Rattle.std.specs.Prelude.{ℕ, ◌≡◌, ◌≤◌, ◌⊎◌, List, Option, Some, None, Result, Ok, Err, IsOkAnd}
 use Rattle.join_request.specs.declared.error.RequestError.{RequestError}
 use Rattle.join_request.specs.declared.reader.Request.{Request}
 use Rattle.join_request.specs.Request.{request_of}
 use Rattle.join_model.specs.Answers.{answer_rows, answer_groups}
-use Rattle.join_engine.specs.declared.engine.QueryError.{QueryError}
-use Rattle.join_engine.specs.Thin.{thin_refusal}
+use Rattle.join_model.specs.declared.error.QueryError.{QueryError}
+use Rattle.join_model.specs.Refusals.{refusal_of}
 use Rattle.join_text.specs.Text.{answer_text_of}
 use Rattle.join_command.specs.declared.error.ToolError.{ToolError}
 use Rattle.join_command.specs.declared.error.ToolError.TheVariants as errors
@@ -22,11 +22,15 @@ text_unless text (Some e) = Err (errors.Query e)
 
 -- the reply to what was read: the text of the answer, or the refusal of the request or of its query
 abbrev pub reply_of : Result Request RequestError → Result (List ℕ) ToolError
-reply_of (Ok r) = text_unless (text_of r) (thin_refusal r.query r.build r.probe)
+reply_of (Ok r) = text_unless (text_of r) (refusal_of r.query r.build r.probe)
 reply_of (Err e) = Err (errors.Request e)
 
 abbrev pub reply_to : List ℕ → Result (List ℕ) ToolError
 reply_to bytes = reply_of (request_of bytes)
+
+-- the bytes are a request whose query has no refusal
+abbrev pub HasNoRefusal : List ℕ → Type 0
+HasNoRefusal bytes = IsOkAnd (request_of bytes) (λ r. refusal_of r.query r.build r.probe ≡ None)
 
 -- why there is no text: want of memory, or the refusal that is the reply
 abbrev pub IsCause : Result (List ℕ) ToolError → ToolError → Type 0

@@ -1,11 +1,40 @@
 //! Why the program does not answer: a status and a line for each cause.
-ghost use Rattle.std.specs.Prelude.{◌≡◌, ◌≤◌};
+ghost use Rattle.std.specs.Prelude.{◌≡◌, ◌≤◌, ◌<◌, ◌++◌, length, codes, decimal};
 ghost use Rattle.join_command.specs.declared.error.ToolError.TheVariants as errors;
-ghost use Rattle.join_command.specs.Errors.{status_of, line_of, error_of_read};
+ghost use Rattle.join_command.specs.Errors.{status_of, line_of, query_text, error_of_read};
 
+use arrayvec::ArrayString;
+use itoa::Buffer;
 use join_engine::QueryError;
 use join_text::{ReadError, RequestError, WriteFault};
 use std::alloc::AllocError;
+
+/// A line, kept without memory.
+pub type Line = ArrayString<64>;
+
+/// A text as a line.
+fn plain(text: &str) -> Line
+    requires { length text.now ≤ 40 }
+    ensures { result.bytes ≡ text.now ++ codes "\n" }
+{
+    let mut line = Line::new();
+    line.push_str(text);
+    line.push('\n');
+    line
+}
+
+/// A text and a number as a line.
+fn numbered(text: &str, number: usize) -> Line
+    requires { length text.now ≤ 40 }
+    ensures { result.bytes ≡ text.now ++ decimal number ++ codes "\n" }
+{
+    let mut buffer = Buffer::new();
+    let mut line = Line::new();
+    line.push_str(text);
+    line.push_str(buffer.format(number));
+    line.push('\n');
+    line
+}
 
 /// Why the program does not answer. `status_of` has the exit status of each cause, and `line_of` the line that tells it.
 #[derive(Clone, Copy, PartialEq, Eq, Debug)]
@@ -46,24 +75,43 @@ impl ToolError {
         }
     }
 
-    /// The line that tells of it, with its line feed. It is made without memory.
-    pub fn line(self) -> &'static str
-        ensures { result.now ≡ line_of self }
+    /// The line that tells of it, with its line feed.
+    pub fn line(self) -> Line
+        ensures { result.bytes ≡ line_of self }
     {
         match self {
-            ToolError::Usage => "usage: join_tool or join_tool gen N\n",
-            ToolError::ReadFault => "read fault\n",
-            ToolError::TooLong => "request too long\n",
-            ToolError::Request(RequestError::NotJson) => "not JSON\n",
-            ToolError::Request(RequestError::Float) => "float in request\n",
-            ToolError::Request(RequestError::NotBuilt) => "request not built\n",
-            ToolError::Query(QueryError::TooLarge) => "query refused: 7 TooLarge\n",
-            ToolError::Query(QueryError::NotBuilt) => "query refused: 9 NotBuilt\n",
-            ToolError::WriteFault => "write fault\n",
-            ToolError::Request(RequestError::Memory)
-            | ToolError::Query(QueryError::Memory)
-            | ToolError::Memory => "out of memory\n",
+            ToolError::Usage => plain("usage: join_tool or join_tool gen N"),
+            ToolError::ReadFault => plain("read fault"),
+            ToolError::TooLong => plain("request too long"),
+            ToolError::Request(RequestError::NotJson) => plain("not JSON"),
+            ToolError::Request(RequestError::Float) => plain("float in request"),
+            ToolError::Request(RequestError::Shape) => plain("not a request"),
+            ToolError::Request(RequestError::Memory) => plain("out of memory"),
+            ToolError::Query(e) => query_line(e),
+            ToolError::WriteFault => plain("write fault"),
+            ToolError::Memory => plain("out of memory"),
         }
+    }
+}
+
+/// The line for a query that is not answered: the number and the name of the cause, and the place that it keeps.
+fn query_line(e: QueryError) -> Line
+    ensures { result.bytes ≡ query_text e ++ codes "\n" }
+{
+    match e {
+        QueryError::NoKeyColumns => plain("query refused: 1 NoKeyColumns"),
+        QueryError::UnknownColumn { position } => {
+            numbered("query refused: 2 UnknownColumn ", position)
+        }
+        QueryError::SchemaMismatch => plain("query refused: 3 SchemaMismatch"),
+        QueryError::UnsupportedReduction { index } => {
+            numbered("query refused: 4 UnsupportedReduction ", index)
+        }
+        QueryError::UnsupportedFilter => plain("query refused: 5 UnsupportedFilter"),
+        QueryError::BadPlan => plain("query refused: 6 BadPlan"),
+        QueryError::TooLarge => plain("query refused: 7 TooLarge"),
+        QueryError::NotBuilt => plain("query refused: 9 NotBuilt"),
+        QueryError::Memory => plain("out of memory"),
     }
 }
 

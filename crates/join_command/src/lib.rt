@@ -5,6 +5,6 @@ mod error;
 mod reply;
 mod run;
 
-pub use error::ToolError;
+pub use error::{Line, ToolError};
 pub use reply::answer_request;
 pub use run::{REQUEST_LIMIT, report, run_tool};

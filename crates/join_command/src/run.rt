@@ -5,7 +5,7 @@ ghost use Rattle.byte_streams.specs.Faults.{Rose};
 ghost use Rattle.byte_streams.specs.Whole.{GrowsByFront};
 ghost use Rattle.join_command.specs.declared.error.ToolError.{ToolError};
 ghost use Rattle.join_command.specs.Errors.{status_of, line_of, status_after};
-ghost use Rattle.join_command.specs.Replies.{reply_to};
+ghost use Rattle.join_command.specs.Replies.{reply_to, HasNoRefusal};
 ghost use Rattle.join_command.specs.Runs.{IsStatus, IsAnswered, IsRefused, WritesLine, IsReplied};
 
 use crate::{ToolError, answer_request};
@@ -23,7 +23,7 @@ pub fn report<E: Sink>(errors: &mut E, e: ToolError) -> u8
     ensures line { WritesLine (E.held errors.old) (E.held errors.new) (E.faults errors.old) (E.faults errors.new) (line_of e) }
     ensures never_falls { E.faults errors.old ≤ E.faults errors.new }
 {
-    let _ = write_all(errors, e.line().as_bytes());
+    let _ = write_all(errors, e.line().as_str().as_bytes());
     e.status()
 }
 
@@ -91,7 +91,10 @@ pub fn run_tool<S: Source, O: Sink, E: Sink, L: Ledger>(
     ensures untouched { 2 ≤ result → result ≢ 7 → out.new ≡ out.old }
 
     // A request of at most 2^28 bytes that the source gives without a fault has its reply, unless memory runs out.
-    ensures complete { IfSome (S.left source.old) (λ bytes. length words.now ≡ 0 → length bytes ≤ 2 ^ 28 → ¬ Rose (S.faults source.old) (S.faults source.new) → (result ≡ 8) ⊎ IsReplied (reply_to bytes) result) }
+    ensures replied { IfSome (S.left source.old) (λ bytes. length words.now ≡ 0 → length bytes ≤ 2 ^ 28 → ¬ Rose (S.faults source.old) (S.faults source.new) → (result ≡ 8) ⊎ IsReplied (reply_to bytes) result) }
+
+    // So where its query has no refusal, and the sink does not fail, it is answered, unless memory runs out.
+    ensures complete { IfSome (S.left source.old) (λ bytes. length words.now ≡ 0 → length bytes ≤ 2 ^ 28 → HasNoRefusal bytes → ¬ Rose (S.faults source.old) (S.faults source.new) → ¬ Rose (O.faults out.old) (O.faults out.new) → (result ≡ 0) ⊎ (result ≡ 8)) }
     ensures reads_never_fall { S.faults source.old ≤ S.faults source.new }
     ensures writes_never_fall { O.faults out.old ≤ O.faults out.new }
     ensures errors_never_fall { E.faults errors.old ≤ E.faults errors.new }

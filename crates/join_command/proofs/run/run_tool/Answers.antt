@@ -1,9 +1,9 @@
-use Rattle.std.proofs.Common.{length}
-use Rattle.join_command.proofs.Told.{Says, complete}
+use Rattle.std.proofs.Common.{length, sym, ◌∙◌}
+use Rattle.join_command.proofs.Told.{Says, replied, complete}
 use Rattle.join_command.proofs.run.run_tool.Goals as goal
 
-pub returns-in-Err-clause-complete : goal.returns-in-Err-clause-complete
-returns-in-Err-clause-complete g c =
+pub returns-in-Err-clause-replied : goal.returns-in-Err-clause-replied
+returns-in-Err-clause-replied g c =
     let run = c.in-Err.ensures in
     let left = g.S.Source.left in
     let faults = g.S.Source.faults in
@@ -17,4 +17,10 @@ returns-in-Err-clause-complete g c =
       refused = run.refused;
       front = λ seven. let a = run.front seven in (a.0, a.1);
     } in
-    rw c.report.ensures.status (complete c.in-Err.e words before now (faults c.args.source.now) (faults c.run_command.new.source) says)
+    rw c.report.ensures.status (replied c.in-Err.e words before now (faults c.args.source.now) (faults c.run_command.new.source) says)
+
+pub returns-in-Err-clause-complete : goal.returns-in-Err-clause-complete
+returns-in-Err-clause-complete g c =
+    complete c.report.result (length c.args.words.now) (g.S.Source.left c.args.source.now) _ _
+    (λ seven. c.in-Err.ensures.write_fault (sym c.report.ensures.status ∙ seven))
+    (returns-in-Err-clause-replied g c)
