@@ -1,6 +1,9 @@
 -- What holds of each item of a list, item by item.
-use Rattle.std.proofs.Common.{◌≡◌, ℕ, ◌+◌, ◌<◌, ◌≤◌, List, length, take, get_or, sym, subst}
+use Rattle.std.proofs.Common.{◌≡◌, ℕ, ◌+◌, ◌<◌, ◌≤◌, List, [], ◌∷◌, length, take, get_or, sym, subst}
 use Rattle.std.specs.List.{All}
+use Rattle.std.proofs.lemmas.List.{append-nil}
+use Rattle.col_core.specs.declared.chunk.Chunk.{Chunk}
+use Rattle.col_core.specs.Tables.{leaves_of, chunk_leaves}
 use Rattle.std.proofs.lemmas.List.{take_more, take_all}
 use Rattle.std.proofs.lemmas.List.Elements.{All-push}
 
@@ -9,3 +12,8 @@ one_more P xs i d h all here = subst (All P) (sym (take_more xs i d h)) (All-pus
 
 pub all_of : {X : Type 0} (P : X → Type 0) (xs : List X) (i : ℕ) → length xs ≤ i → All P (take i xs) → All P xs
 all_of P xs i h all = subst (All P) (take_all i xs h) all
+
+pub leaves_of_one : (c : Chunk) → leaves_of (c ∷ []) ≡ chunk_leaves c
+leaves_of_one c = append-nil (chunk_leaves c)
+
+pub ruleset one_chunk = (leaves_of_one)

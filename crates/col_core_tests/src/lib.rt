@@ -2,10 +2,12 @@
 #![tactic(auto)]
 
 #[cfg(test)]
-mod arrays;
-#[cfg(test)]
-mod columns;
+mod chunks;
 #[cfg(test)]
 mod frames;
 #[cfg(test)]
-mod gathers;
+mod texts;
+#[cfg(test)]
+mod types;
+#[cfg(test)]
+mod values;

@@ -1,5 +1,5 @@
-//! Texts, lists, schemas and arrays.
-use col_core::{BinaryArray, Blob, DataType, Field, List, Name, PrimitiveArray, Schema, same_type};
+//! Texts, lists and schemas.
+use col_core::{Blob, DataType, Field, List, Name, Schema, same_type};
 use std::alloc::{AllocError, Global};
 
 #[test]
@@ -44,42 +44,5 @@ fn schemas(rt: HostRuntime) -> Result<(), AllocError> {
     assert!(rt; schema.type_of("a") == Some(DataType::Int8));
     assert!(rt; schema.try_clone(rt.alloc())?.is_same(&schema));
     assert!(rt; !same_type(DataType::Decimal(10, 2), DataType::Decimal(10, 3)));
-    Ok(())
-}
-
-/// The array 5, null over a stored -3, 7.
-fn three_numbers(alloc: Global) -> Result<PrimitiveArray<i64>, AllocError> {
-    let mut numbers = PrimitiveArray::from_vec(vec![in alloc; 5i64]?);
-    numbers.push(-3, false)?;
-    numbers.push(7, true)?;
-    Ok(numbers)
-}
-
-#[test]
-fn numbers(rt: HostRuntime) -> Result<(), AllocError> {
-    let numbers = three_numbers(rt.alloc())?;
-    assert_eq!(rt; numbers.values(), [5, -3, 7].as_slice());
-    assert_eq!(rt; numbers.null_count(), 1);
-    if numbers.len() == 3 {
-        let taken = numbers.take(rt.alloc(), &[2, 1])?;
-        assert_eq!(rt; taken.values(), [7, -3].as_slice());
-        assert_eq!(rt; taken.null_count(), 1);
-    }
-    Ok(())
-}
-
-#[test]
-fn bytes(rt: HostRuntime) -> Result<(), AllocError> {
-    let mut texts = BinaryArray::new(rt.alloc());
-    texts.push(b"a", true)?;
-    texts.push(b"", true)?;
-    assert_eq!(rt; texts.null_count(), 0);
-    if texts.len() == 2 {
-        let last = texts.take(rt.alloc(), &[1])?;
-        assert_eq!(rt; last.len(), 1);
-        if last.len() == 1 {
-            assert!(rt; last.value(0).is_empty());
-        }
-    }
     Ok(())
 }
