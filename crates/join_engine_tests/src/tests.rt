@@ -113,10 +113,16 @@ fn changed(alloc: Global, first: Change, second: Change) -> Result<Query, Fail> 
     Ok(asked)
 }
 
-// Whether both calls refuse a query by the same error.
-fn is_refused(alloc: Global, query: &Query, error: QueryError) -> Result<bool, Fail> {
-    let checked = check_query(query, &[], &[]).err();
-    let answered = answer(alloc, query, &[], &[])?.err();
+// Whether both calls refuse a query with two changes by the same error.
+fn is_refused(
+    alloc: Global,
+    first: Change,
+    second: Change,
+    error: QueryError,
+) -> Result<bool, Fail> {
+    let asked = changed(alloc, first, second)?;
+    let checked = check_query(&asked, &[], &[]).err();
+    let answered = answer(alloc, &asked, &[], &[])?.err();
     Ok(checked == Some(error) && answered == Some(error))
 }
 
@@ -151,8 +157,10 @@ fn refuses_by_each_cause(rt: HostRuntime) -> Result<(), Fail> {
         (Change::KeepProbe, QueryError::NotBuilt),
         (Change::KeepBuild, QueryError::NotBuilt),
     ] {
-        let asked = changed(alloc, cause, Change::Nothing)?;
-        assert!(rt; is_refused(alloc, &asked, error)?, "{cause:?}");
+        assert!(rt;
+            is_refused(alloc, cause, Change::Nothing, error)?,
+            "{cause:?}"
+        );
     }
     Ok(())
 }
@@ -186,8 +194,10 @@ fn refuses_by_the_first_of_two(rt: HostRuntime) -> Result<(), Fail> {
         ),
         (no_partition, Change::KeepProbe, QueryError::BadPlan),
     ] {
-        let asked = changed(alloc, first, second)?;
-        assert!(rt; is_refused(alloc, &asked, error)?, "{first:?} {second:?}");
+        assert!(rt;
+            is_refused(alloc, first, second, error)?,
+            "{first:?} {second:?}"
+        );
     }
     Ok(())
 }
@@ -222,8 +232,11 @@ fn refuses_plans_out_of_range(rt: HostRuntime) -> Result<(), Fail> {
         },
         Plan { pseed: 2, ..PLAN },
     ] {
-        let asked = changed(alloc, Change::Plan(plan), Change::Nothing)?;
-        assert!(rt; is_refused(alloc, &asked, QueryError::BadPlan)?, "{plan:?}");
+        let cause = Change::Plan(plan);
+        assert!(rt;
+            is_refused(alloc, cause, Change::Nothing, QueryError::BadPlan)?,
+            "{plan:?}"
+        );
     }
     Ok(())
 }
