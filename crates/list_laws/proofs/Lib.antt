@@ -1,1 +1,11 @@
 pub mod Distinct
+pub mod Each
+pub mod Booleans
+pub mod Filters
+pub mod Maps
+pub mod Keys
+pub mod Buckets
+pub mod Ascending
+pub mod Ranges
+pub mod Orders
+pub mod Runs

@@ -1,1 +1,5 @@
+pub mod Each
 pub mod Distinct
+pub mod Ascending
+pub mod Orders
+pub mod Runs

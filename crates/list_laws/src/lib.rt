@@ -1,2 +1,2 @@
-//! Words and laws about lists that know nothing of columns: the distinct items of a list by first appearance, and a value for each of them.
+//! Words and laws about lists that know nothing of columns: what holds of each item, distinct items, lists whose numbers rise, classes and orders of items, runs.
 #![tactic(auto)]
