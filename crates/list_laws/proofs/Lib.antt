@@ -9,3 +9,4 @@ pub mod Ascending
 pub mod Ranges
 pub mod Orders
 pub mod Runs
+pub mod Places

@@ -3,3 +3,4 @@ pub mod Distinct
 pub mod Ascending
 pub mod Orders
 pub mod Runs
+pub mod Places
