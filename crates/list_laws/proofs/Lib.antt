@@ -1,1 +1,6 @@
+pub mod Halves
+pub mod Maps
+pub mod Filters
+pub mod Positions
+pub mod Pointwise
 pub mod Distinct
