@@ -6,7 +6,7 @@ use Rattle.std.proofs.lemmas.Bool.{false≢true, eq-eqb}
 use Rattle.join_laws.proofs.Locals.{at_key_map}
 use Rattle.join_laws.specs.Deals.{Place, all_places, build_row, chunk, dealt, frame_keys, inserted, is_key, key_at, keys_join, partners, positions_where, present, table_keys, table_positions}
 use Rattle.list_laws.proofs.Distinct.{any_distinct}
-use Rattle.list_laws.proofs.Filters.{filter-flat_map, filter_implied, filter-map, filter-none}
+use Rattle.list_laws.proofs.Filters.{filter-flat_map, filter_implied, filter-map, filter-absent}
 use Rattle.list_laws.proofs.Keys.{list_any-map}
 use Rattle.list_laws.proofs.Maps.{flat_map_agree, made, map-flat_map, picked}
 
@@ -43,7 +43,7 @@ module _ {K : Type 0} (E : K → K → Bool) (dec : (a b : K) → Decides (E a b
 
   -- a key that is not in the table has no positions
   pub no_positions : (p : ℕ) (k : K) → list_any (λ s. E s k) (table_keys E part frames p) ≡ false → table_positions E part frames p k ≡ []
-  no_positions p k h = ap (map (λ e. e.1)) (filter-none (λ e. is_key E k e.0) (inserted E part frames p) (sym (list_any-map (is_key E k) (λ (e : Option K × Place). e.0) (inserted E part frames p)) ∙ sym (any_present (map (λ e. e.0) (inserted E part frames p)) k) ∙ sym (any_distinct E dec (present (map (λ e. e.0) (inserted E part frames p))) k) ∙ h))
+  no_positions p k h = ap (map (λ e. e.1)) (filter-absent (λ e. is_key E k e.0) (inserted E part frames p) (sym (list_any-map (is_key E k) (λ (e : Option K × Place). e.0) (inserted E part frames p)) ∙ sym (any_present (map (λ e. e.0) (inserted E part frames p)) k) ∙ sym (any_distinct E dec (present (map (λ e. e.0) (inserted E part frames p))) k) ∙ h))
 
   nothing : {X : Type 0} (xs : List X) → filter (λ x. false) xs ≡ []
   nothing [] = refl

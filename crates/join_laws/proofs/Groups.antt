@@ -10,7 +10,7 @@ use Rattle.join_laws.proofs.Entries.{ascends_all, morsel_entries, rises_all, row
 use Rattle.join_laws.proofs.Locals.{merged_is, merged_members}
 use Rattle.join_laws.specs.Locals.{AreMergedKeys, Entry, HoldAll, Local, all_entries, block, first_row, merged, of_key, rows_of_morsels}
 use Rattle.list_laws.proofs.Ascending.{ascending_unique, ascends_distinct, ascends_from, least-append, Rises-agree, Rises-filter}
-use Rattle.list_laws.proofs.Booleans.{or_comm}
+use Rattle.list_laws.proofs.Halves.{or_comm}
 use Rattle.list_laws.proofs.Distinct.{any_distinct}
 use Rattle.list_laws.proofs.Each.{Each-filter, Each-flat_map, Each-all, Each-weaker}
 use Rattle.list_laws.proofs.Filters.{filter-map}

@@ -9,7 +9,7 @@ use Rattle.std.proofs.lemmas.List.Sums.{fold_push}
 use Rattle.join_laws.specs.Deals.{Place, is_key, present}
 use Rattle.join_laws.specs.Inserts.{Slot, positions_of, slots_of, with_position, with_row}
 use Rattle.list_laws.proofs.Distinct.{any_distinct}
-use Rattle.list_laws.proofs.Filters.{filter-none}
+use Rattle.list_laws.proofs.Filters.{filter-absent}
 use Rattle.list_laws.proofs.Keys.{list_any-map, distinct_apart, flips_false, same_self}
 use Rattle.list_laws.specs.Distinct.{NoRepeat, distinct, with_new}
 
@@ -72,7 +72,7 @@ module _ {K : Type 0} (E : K → K → Bool) (dec : (a b : K) → Decides (E a b
       here = ap (map (λ e. e.1)) (filter-append (λ e. is_key E k e.0) es ((Some k, x) ∷ []) ∙ rw (same_self E dec k) refl) ∙ map-append (λ (e : Option K × Place). e.1) (filter (λ e. is_key E k e.0) es) ((Some k, x) ∷ [])
 
       absent : list_any (λ s. E s k) (distinct E (present (map (λ e. e.0) es))) ≡ false → positions_of E es k ≡ []
-      absent h = ap (map (λ e. e.1)) (filter-none (λ e. is_key E k e.0) es (sym (list_any-map (is_key E k) (λ (e : Option K × Place). e.0) es) ∙ sym (any_present (map (λ e. e.0) es) k) ∙ sym (any_distinct E dec (present (map (λ e. e.0) es)) k) ∙ h))
+      absent h = ap (map (λ e. e.1)) (filter-absent (λ e. is_key E k e.0) es (sym (list_any-map (is_key E k) (λ (e : Option K × Place). e.0) es) ∙ sym (any_present (map (λ e. e.0) es) k) ∙ sym (any_distinct E dec (present (map (λ e. e.0) es)) k) ∙ h))
 
       go : with_position E (slots_of E es) k x ≡ slots_of E (es ++ (Some k, x) ∷ [])
       go = put (positions_of E es) (positions_of E (es ++ (Some k, x) ∷ [])) k x same here (distinct E (present (map (λ e. e.0) es))) (distinct_apart E dec (present (map (λ e. e.0) es))) absent ∙ ap (map (slot (positions_of E (es ++ (Some k, x) ∷ [])))) (sym keys)

@@ -9,7 +9,7 @@ use Rattle.std.proofs.lemmas.List.Sums.{fold-append}
 use Rattle.join_laws.specs.Locals.{HoldAll, Holds, Local, Takes, at_key, merge_one, merged, of_key}
 use Rattle.list_laws.proofs.Distinct.{any_distinct}
 use Rattle.list_laws.proofs.Each.{Each-append, Each-filter}
-use Rattle.list_laws.proofs.Filters.{filter-none}
+use Rattle.list_laws.proofs.Filters.{filter-absent}
 use Rattle.list_laws.proofs.Keys.{list_any-append, list_any-map}
 use Rattle.list_laws.proofs.Maps.{map_agree}
 use Rattle.list_laws.specs.Distinct.{distinct, with_new}
@@ -32,7 +32,7 @@ module _ {K : Type 0} (E : K → K → Bool) (dec : (a b : K) → Decides (E a b
     of xs k = filter (λ x. E (key x) k) xs
 
     pub no_entries : (xs : List X) (k : K) → list_any (λ s. E s k) (distinct E (map key xs)) ≡ false → F (of_key E key xs k) ≡ F []
-    no_entries xs k h = ap F (filter-none (λ x. E (key x) k) xs (sym (list_any-map (λ s. E s k) key xs) ∙ sym (any_distinct E dec (map key xs) k) ∙ h))
+    no_entries xs k h = ap F (filter-absent (λ x. E (key x) k) xs (sym (list_any-map (λ s. E s k) key xs) ∙ sym (any_distinct E dec (map key xs) k) ∙ h))
 
     -- the value of a key in a local state
     pub holds_at : (xs : List X) (l : Local K V) (k : K) → Holds E key F xs l → at_key E l.keys l.values k (F []) ≡ F (of_key E key xs k)
@@ -59,7 +59,7 @@ module _ {K : Type 0} (E : K → K → Bool) (dec : (a b : K) → Decides (E a b
     ]
       where
         nothing : list_any (λ s. E s k) l.keys ≡ false → of_key E key xs k ≡ []
-        nothing e = filter-none (λ x. E (key x) k) xs (sym (list_any-map (λ s. E s k) key xs) ∙ sym (any_distinct E dec (map key xs) k) ∙ ap (λ ks. list_any (λ s. E s k) ks) (sym h.keys_are) ∙ e)
+        nothing e = filter-absent (λ x. E (key x) k) xs (sym (list_any-map (λ s. E s k) key xs) ∙ sym (any_distinct E dec (map key xs) k) ∙ ap (λ ks. list_any (λ s. E s k) ks) (sym h.keys_are) ∙ e)
 
     -- the merged value of a key is that of all its entries
     merged_from : (zs : List X) (xss : List (List X)) (ls : List (Local K V)) (k : K) → Each G zs → Each (Each G) xss → HoldAll E key F xss ls → fold (merge_one E M (F []) k) (F (of_key E key zs k)) ls ≡ F (of_key E key (zs ++ flat_map (λ xs. xs) xss) k)

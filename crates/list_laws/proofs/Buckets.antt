@@ -6,8 +6,8 @@ use Rattle.std.proofs.lemmas.Bool.{false≢true, cases_Bool}
 use Rattle.list_laws.specs.Each.{Each}
 use Rattle.list_laws.specs.Distinct.{NoRepeat}
 use Rattle.list_laws.proofs.Each.{Each-append, Each-weaker, Each-filter, Each-filtered, Each-all}
-use Rattle.list_laws.proofs.Filters.{filter_and, filter_same, filter_all}
-use Rattle.list_laws.proofs.Booleans.{and_false, and_true}
+use Rattle.list_laws.proofs.Filters.{filter_and, filter_same, filter-Each}
+use Rattle.list_laws.proofs.Halves.{and_false, and_true}
 
 module _ {X S : Type 0} (G : X → Type 0) (F : List X → S) (M : S → S → S) (hom : (xs ys : List X) → Each G xs → Each G ys → F (xs ++ ys) ≡ M (F xs) (F ys)) where
   pub join_left : (xs ys zs : List X) → Each G xs → Each G ys → Each G zs → F xs ≡ F ys → F (xs ++ zs) ≡ F (ys ++ zs)
@@ -85,7 +85,7 @@ module _ {X S : Type 0} (G : X → Type 0) (F : List X → S) (M : S → S → S
 
     -- items whose classes are all listed
     pub all_bucketed : (xs : List X) (cs : List C) → Each G xs → NoRepeat E cs → Each (λ x. among cs x ≡ true) xs → F (buckets xs cs) ≡ F xs
-    all_bucketed xs cs g n h = bucketed xs cs g n ∙ ap F (filter_all (among cs) xs h)
+    all_bucketed xs cs g n h = bucketed xs cs g n ∙ ap F (filter-Each (among cs) xs h)
 
     -- two lists whose classes are the same lists
     pub same_classes : (xs ys : List X) (cs : List C) → Each G xs → Each G ys → NoRepeat E cs → Each (λ x. among cs x ≡ true) xs → Each (λ x. among cs x ≡ true) ys → Each (λ c. filter (λ x. E (class x) c) xs ≡ filter (λ x. E (class x) c) ys) cs → F xs ≡ F ys

@@ -1,5 +1,6 @@
 -- What holds of each item of a list.
-use Rattle.std.proofs.Common.{◌≡◌, Bool, true, false, cond, List, [], ◌∷◌, ◌++◌, filter, flat_map, refl}
+use Rattle.std.proofs.Common.{◌≡◌, zero, suc, Bool, true, false, cond, List, [], ◌∷◌, ◌++◌, filter, flat_map, refl, arith}
+use Rattle.std.specs.List.{All}
 use Rattle.list_laws.specs.Each.{Each}
 
 pub Each-append : {X : Type 0} (P : X → Type 0) (xs ys : List X) → Each P xs → Each P ys → Each P (xs ++ ys)
@@ -31,3 +32,13 @@ Each-all P (x ∷ xs) f = (f x, Each-all P xs f)
 pub Each-flat_map : {A B : Type 0} (P : B → Type 0) (f : A → List B) (xs : List A) → Each (λ a. Each P (f a)) xs → Each P (flat_map f xs)
 Each-flat_map P f [] h = tt
 Each-flat_map P f (x ∷ xs) h = Each-append P (f x) (flat_map f xs) h.0 (Each-flat_map P f xs h.1)
+
+-- from what holds by place, and back
+pub Each-from_All : {X : Type 0} (P : X → Type 0) (xs : List X) → All P xs → Each P xs
+Each-from_All P [] h = tt
+Each-from_All P (x ∷ xs) h = (h 0 x (omega arith), Each-from_All P xs (λ k d l. h (suc k) d (omega arith)))
+
+pub All-from_Each : {X : Type 0} (P : X → Type 0) (xs : List X) → Each P xs → All P xs
+All-from_Each P [] h k d l = absurd (omega arith)
+All-from_Each P (x ∷ xs) h zero d l = h.0
+All-from_Each P (x ∷ xs) h (suc k) d l = All-from_Each P xs h.1 k d (omega arith)

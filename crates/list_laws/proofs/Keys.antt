@@ -5,7 +5,7 @@ use Rattle.std.specs.List.{list_any}
 use Rattle.std.proofs.lemmas.Bool.{false≢true, cases_Bool, or_parts}
 use Rattle.list_laws.specs.Each.{Each}
 use Rattle.list_laws.specs.Distinct.{NoRepeat, with_new, distinct}
-use Rattle.list_laws.proofs.Booleans.{or_none, or_assoc}
+use Rattle.list_laws.proofs.Halves.{or_none, or_assoc}
 
 pub list_any-append : {X : Type 0} (p : X → Bool) (xs ys : List X) → list_any p (xs ++ ys) ≡ (list_any p xs || list_any p ys)
 list_any-append p [] ys = refl

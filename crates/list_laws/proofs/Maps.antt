@@ -1,5 +1,5 @@
--- Maps over lists of lists, and over the places of a list.
-use Rattle.std.proofs.Common.{◌≡◌, ℕ, zero, suc, Bool, List, [], ◌∷◌, ◌++◌, map, filter, flat_map, length, get_or, refl, sym, ap, ap₂, ◌∙◌}
+-- Maps by functions that agree, over lists of lists, and over the places of a list.
+use Rattle.std.proofs.Common.{◌≡◌, ℕ, Bool, zero, suc, ◌<◌, List, [], ◌∷◌, ◌++◌, map, filter, flat_map, length, get_or, refl, sym, ap, ap₂, ◌∙◌, arith}
 use Rattle.std.specs.List.{range_with_len}
 use Rattle.std.proofs.lemmas.List.{map-append}
 use Rattle.std.proofs.lemmas.List.Concat.{flat_map-append}
@@ -8,9 +8,15 @@ use mathlib.Core.List.{map-map}
 use Rattle.list_laws.specs.Each.{Each}
 use Rattle.list_laws.proofs.Filters.{filter-map}
 
+-- everywhere
 pub map_agree : {A B : Type 0} (f g : A → B) → ((a : A) → f a ≡ g a) → (xs : List A) → map f xs ≡ map g xs
 map_agree f g h [] = refl
 map_agree f g h (x ∷ xs) = cc (h x, map_agree f g h xs)
+
+-- on the items of the list
+pub map_agree_on : {A B : Type 0} (f g : A → B) (xs : List A) → ((k : ℕ) (d : A) → k < length xs → f (get_or xs k d) ≡ g (get_or xs k d)) → map f xs ≡ map g xs
+map_agree_on f g [] h = refl
+map_agree_on f g (x ∷ xs) h = cc (h 0 x (omega arith), map_agree_on f g xs (λ k d l. h (suc k) d (omega arith)))
 
 pub map-flat_map : {A B C : Type 0} (g : B → C) (f : A → List B) (xs : List A) → map g (flat_map f xs) ≡ flat_map (λ x. map g (f x)) xs
 map-flat_map g f [] = refl

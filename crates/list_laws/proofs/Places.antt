@@ -1,7 +1,7 @@
 -- Lists that changed place by place.
-use Rattle.std.proofs.Common.{◌≡◌, ℕ, zero, suc, ◌+◌, ◌<◌, ◌≤◌, List, [], ◌∷◌, ◌++◌, length, get_or, set, take, refl, sym, ap, ap₂, ◌∙◌, subst, inl, inr, add-one, zero-add, arith}
+use Rattle.std.proofs.Common.{◌≡◌, ℕ, zero, suc, ◌+◌, ◌<◌, ◌≤◌, List, [], ◌∷◌, ◌++◌, length, get_or, set, take, refl, sym, ap, subst, add-one, zero-add, arith}
 use Rattle.std.proofs.lemmas.List.{take_more}
-use Rattle.list_laws.specs.Places.{EachFrom, PairsFrom, ChangedFront, ChangedAt, IsIn, At}
+use Rattle.list_laws.specs.Places.{PairsFrom, ChangedFront, ChangedAt, At}
 
 module _ {X : Type 0} (P : ℕ → X → X → Type 0) where
   -- one more item has changed
