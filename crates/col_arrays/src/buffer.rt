@@ -1,38 +1,38 @@
-//! Lists of bytes in one buffer.
+//! Texts or bytes in one buffer.
 ghost use Rattle.std.specs.Prelude.{◌≡◌, ◌<◌, ◌≤◌, ◌+◌, [], ◌∷◌, ◌++◌, Some, length, map, OnOk, OnErr, IfOk, slice_get, vec_len, vec_capacity};
 ghost use Rattle.std.specs.List.{All};
-ghost use Rattle.col_arrays.specs.Pieces.{pieces, opened, AreOffsets};
+ghost use Rattle.col_arrays.specs.Buffer.{byte_items, opened, AreOffsets, AreBytes};
 
 use crate::IdxSize;
 use std::alloc::{AllocError, Global};
 use std::marker::Model;
 
-/// Pieces of bytes, one after the other in one buffer: piece `i` goes from offset `i` up to
-/// offset `i + 1`. While there is no piece the first offset may be left out.
+/// Texts or bytes, one after the other in one buffer: item `i` goes from offset `i` up to offset
+/// `i + 1`. While there is no item the first offset may be left out.
 #[derive(Debug, Drop)]
-pub(crate) struct Pieces {
+pub(crate) struct BinaryBuffer {
     bytes: Vec<u8>,
     offsets: Vec<u64>,
 }
 
-impl Model for Pieces {
+impl Model for BinaryBuffer {
     ghost use Rattle.std.specs.Prelude.{List, ℕ};
-    ghost use Rattle.col_arrays.specs.Pieces.{pieces, opened, AreOffsets};
+    ghost use Rattle.col_arrays.specs.Buffer.{byte_items, opened, AreOffsets};
 
     ghost Value = { List (List ℕ) };
 
-    ghost view = { λ p. pieces p.bytes.items (opened p.offsets.items) };
+    ghost view = { λ p. byte_items p.bytes.items (opened p.offsets.items) };
 
     ghost invariant = { λ p. AreOffsets p.bytes.items (opened p.offsets.items) };
 }
 
-impl Pieces {
-    /// No pieces yet.
+impl BinaryBuffer {
+    /// No items yet.
     #[tactic(auto, using(crate::proofs::Offsets::sizes))]
     pub(crate) fn new(alloc: Global) -> Self
         ensures { result ≡ [] }
     {
-        Pieces {
+        BinaryBuffer {
             bytes: Vec::new(alloc),
             offsets: Vec::new(alloc),
         }
@@ -42,20 +42,22 @@ impl Pieces {
     #[tactic(auto, using(crate::proofs::Offsets::sizes))]
     pub(crate) fn from_parts(bytes: Vec<u8>, offsets: Vec<u64>) -> Self
         requires { AreOffsets bytes.items offsets.items }
-        ensures { result ≡ pieces bytes.items offsets.items }
+        ensures { result ≡ byte_items bytes.items offsets.items }
     {
-        Pieces { bytes, offsets }
+        BinaryBuffer { bytes, offsets }
     }
 
-    /// The number of pieces.
+    /// The number of items.
     #[tactic(auto, using(crate::proofs::Offsets::sizes))]
     pub(crate) fn len(&self) -> usize
-        ensures { result ≡ length self.now }
+        ensures len { result ≡ length self.now }
+        ensures bytes { All AreBytes self.now }
     {
+        know_bytes(&self.bytes);
         self.offsets.len().saturating_sub(1)
     }
 
-    /// The piece at a place.
+    /// The item at a place.
     pub(crate) fn get(&self, i: usize) -> &[u8]
         requires { i < length self.now }
         ensures { slice_get self.now i ≡ Some result.now }
@@ -65,36 +67,36 @@ impl Pieces {
         &self.bytes[start..end]
     }
 
-    /// The allocator that the pieces are kept by.
+    /// The allocator that the items are kept by.
     pub(crate) fn allocator(&self) -> Global {
         *self.bytes.allocator()
     }
 
-    /// Makes room for the offsets of `n` more pieces.
+    /// Makes room for the offsets of `n` more items.
     pub(crate) fn reserve(&mut self, n: usize) -> Result<(), AllocError>
         ensures { self.new ≡ self.old }
     {
         self.offsets.reserve(n.saturating_add(1))
     }
 
-    /// Appends a piece. After `Err` the pieces are as they were.
+    /// Appends an item. After `Err` the items are as they were.
     #[tactic(auto, using(crate::proofs::Offsets::pushes))]
-    pub(crate) fn push(&mut self, piece: &[u8]) -> Result<(), AllocError>
-        ensures ok { OnOk result (self.new ≡ self.old ++ piece.now ∷ []) }
+    pub(crate) fn push(&mut self, item: &[u8]) -> Result<(), AllocError>
+        ensures ok { OnOk result (self.new ≡ self.old ++ item.now ∷ []) }
         ensures err { OnErr result (self.new ≡ self.old) }
     {
         self.offsets.reserve(2)?;
-        self.bytes.extend_from_slice(piece)?;
-        end_piece(&mut self.offsets, self.bytes.len() as u64);
+        self.bytes.extend_from_slice(item)?;
+        end_item(&mut self.offsets, self.bytes.len() as u64);
         Ok(())
     }
 
-    /// The pieces at indexes, in the order of the indexes.
+    /// The items at indexes, in the order of the indexes.
     pub(crate) fn take(&self, alloc: Global, idxs: &[IdxSize]) -> Result<Self, AllocError>
         requires { All (λ i. i < length self.now) idxs.now }
         ensures { IfOk result (λ taken. map Some taken ≡ map (slice_get self.now) idxs.now) }
     {
-        let mut taken = Pieces::new(alloc);
+        let mut taken = BinaryBuffer::new(alloc);
         taken.reserve(idxs.len())?;
         for idx in idxs {
             taken.push(self.get(*idx as usize))?;
@@ -103,8 +105,14 @@ impl Pieces {
     }
 }
 
-/// Ends a piece at an offset, for which there is room.
-fn end_piece(offsets: &mut Vec<u64>, end: u64)
+/// Tells what a byte holds.
+#[inline(always)]
+fn know_bytes(bytes: &[u8])
+    ensures { AreBytes bytes.now }
+{}
+
+/// Ends an item at an offset, for which there is room.
+fn end_item(offsets: &mut Vec<u64>, end: u64)
     requires room { vec_len offsets.old + 2 ≤ vec_capacity offsets.old }
     ensures { offsets.new.items ≡ opened offsets.old.items ++ end ∷ [] }
 {

@@ -1,6 +1,6 @@
 use Rattle.std.proofs.Common.{slice_get}
 use Rattle.col_arrays.proofs.Items.{taken_more}
-use Rattle.col_arrays.proofs.pieces.Pieces.take.Goals as goal
+use Rattle.col_arrays.proofs.buffer.BinaryBuffer.take.Goals as goal
 
 pub loop-idx-preserved : goal.loop-idx-preserved
 loop-idx-preserved c =

@@ -1,7 +1,7 @@
 use Rattle.std.proofs.Common.{◌≡◌, ◌+◌, get_or, arith}
 use Rattle.std.proofs.lemmas.Grind.{common_steps}
 use Rattle.col_arrays.proofs.Offsets.{cut_at}
-use Rattle.col_arrays.proofs.pieces.Pieces.get.Goals as goal
+use Rattle.col_arrays.proofs.buffer.BinaryBuffer.get.Goals as goal
 
 pub index-requires : goal.index-requires
 index-requires c =
