@@ -1,4 +1,5 @@
-//! Columns and frames. The bits and arrays that columns are kept in stand in `col_arrays`, and are named here too.
+//! Columns and frames. The bits and arrays that columns are kept in stand in `col_arrays`, and lists in `item_list`; both are
+//! named here too.
 #![tactic(auto)]
 
 mod builder;
@@ -7,7 +8,6 @@ mod data_type;
 mod frame;
 mod items;
 mod leaf;
-mod list;
 mod schema;
 mod series;
 mod text;
@@ -19,8 +19,8 @@ pub use col_arrays::{
 };
 pub use data_type::{DataType, PhysicalType, TimeUnit, same_type};
 pub use frame::{Frame, FrameError};
+pub use item_list::List;
 pub use leaf::Leaf;
-pub use list::List;
 pub use schema::{Field, Schema};
 pub use series::{ColumnError, Series};
 pub use text::{Blob, Name};

@@ -1,4 +1,11 @@
 //! A list that contracts see as its items.
+//!
+//! [`List`] is a `Vec` for signatures: it is made of one, gives it back, grows, and lends its items for
+//! reading as a slice and one for writing. What is promised: each call is its operation on the list of
+//! items, and after want of memory the list is as it was. It stands at the bottom, so that crates that
+//! know nothing of columns have it too; `col_core` gives it again.
+#![tactic(auto)]
+
 ghost use Rattle.std.specs.Prelude.{◌≡◌, ◌<◌, [], ◌∷◌, ◌++◌, length, slice_get, Some, IfErr, OnOk, OnErr};
 
 use std::alloc::Global;
@@ -23,7 +30,7 @@ impl<T> Model for List<T> {
 
 impl<T> List<T> {
     ghost use Rattle.std.specs.Borrow.{sem};
-    ghost use Rattle.col_core.specs.Lending.{LendsItem};
+    ghost use Rattle.item_list.specs.Lending.{LendsItem};
 
     /// No items yet.
     pub fn new(alloc: Global) -> List<T>
