@@ -5,10 +5,13 @@ use Rattle.std.specs.List.{range_with_len}
 use Rattle.std.proofs.lemmas.Bool.{cases_Bool, ne_eqb, eq-eqb, cases_order, lt-ltb, ltb-true, not-false}
 use Rattle.std.proofs.lemmas.List.Sums.{sum_by-cons}
 use Rattle.std.proofs.lemmas.List.Sorted.{sum_by-IsPermutation}
-use Rattle.join_laws.proofs.Unmatched.{counted, is_outer, outer_places}
-use Rattle.join_laws.specs.Deals.{Place, all_places, frame_keys, key_at, unmatched}
+use Rattle.join_laws.proofs.Unmatched.{counted, outer_places}
+use Rattle.join_laws.specs.Deals.{all_places, frame_keys, key_at, unmatched}
+use Rattle.join_laws.specs.Outer.{is_outer}
+use Rattle.join_laws.specs.Places.{RowPlace}
+use Rattle.key_parts.specs.Positions.{Position}
 use Rattle.list_laws.proofs.Ascending.{Rises-append, Rises-filter}
-use Rattle.list_laws.proofs.Each.{Each-filter, Each-flat_map, Each-all, Each-weaker}
+use Rattle.list_laws.proofs.Each.{Each-filter, Each-flat_map, Each-all, Each-weaker, Each-map}
 use Rattle.list_laws.proofs.Ranges.{Each-range}
 use Rattle.list_laws.specs.Ascending.{Rises}
 use Rattle.list_laws.specs.Each.{Each}
@@ -46,13 +49,13 @@ module _ {X : Type 0} (P : X → Type 0) (num : X → ℕ) (inj : (a b : X) → 
     | inr (inr more) ↦ absurd (let a = c (num y) in let b = count_head y ys in let d = count_above (num y) (x ∷ xs) (above_all (num y) x xs more rx.0) in omega arith)
   ]
 
-abbrev pub place_number : Place → ℕ
+abbrev pub place_number : RowPlace → ℕ
 place_number x = x.frame * 4294967296 + x.row
 
-abbrev pub IsShort : Place → Type 0
+abbrev pub IsShort : RowPlace → Type 0
 IsShort x = x.row < 4294967296
 
-place_injective : (a b : Place) → IsShort a → IsShort b → place_number a ≡ place_number b → a ≡ b
+place_injective : (a b : RowPlace) → IsShort a → IsShort b → place_number a ≡ place_number b → a ≡ b
 place_injective a b sa sb e =
     let f : a.frame ≡ b.frame = omega arith in
     let r : a.row ≡ b.row = omega arith in
@@ -70,46 +73,42 @@ count_from_each : {X : Type 0} (p : X → Bool) (xs : List X) → Each (λ x. p 
 count_from_each p [] h = refl
 count_from_each p (x ∷ xs) h = sum_by-cons (λ y. cond (p y) 1 0) x xs ∙ ap₂ (λ b m. cond b 1 0 + m) h.0 (count_from_each p xs h.1)
 
-each_map : {A B : Type 0} (P : B → Type 0) (f : A → B) (xs : List A) → Each (λ a. P (f a)) xs → Each P (map f xs)
-each_map P f [] h = tt
-each_map P f (x ∷ xs) h = (h.0, each_map P f xs h.1)
-
 module _ {K : Type 0} (E : K → K → Bool) (dec : (a b : K) → Decides (E a b) (a ≡ b)) (part : Option K → ℕ) (frames : List (List (Option K))) (short : (f : ℕ) → length (get_or frames f []) ≤ 4294967296) where
-  abbrev of_frame : ℕ → List Place
+  abbrev of_frame : ℕ → List RowPlace
   of_frame f = map (λ i. record { frame = f; row = i }) (range_with_len 0 (length (frame_keys E part frames f)))
 
   rises_rows : (f a n : ℕ) → Rises place_number (map (λ i. record { frame = f; row = i }) (range_with_len a n))
   rises_rows f a zero = tt
-  rises_rows f a (suc n) = (each_map (λ (x : Place). f * 4294967296 + a ≤ place_number x) (λ i. record { frame = f; row = i }) (range_with_len (a + 1) n) (Each-range _ (a + 1) n (λ k l m. omega arith)), rises_rows f (a + 1) n)
+  rises_rows f a (suc n) = (Each-map (λ (x : RowPlace). f * 4294967296 + a ≤ place_number x) (λ i. record { frame = f; row = i }) (range_with_len (a + 1) n) (Each-range _ (a + 1) n (λ k l m. omega arith)), rises_rows f (a + 1) n)
 
   short_frame : (f : ℕ) → Each IsShort (of_frame f)
-  short_frame f = each_map IsShort (λ i. record { frame = f; row = i }) (range_with_len 0 (length (frame_keys E part frames f))) (Each-range _ 0 (length (frame_keys E part frames f)) (λ k l m. let s = short f in omega arith))
+  short_frame f = Each-map IsShort (λ i. record { frame = f; row = i }) (range_with_len 0 (length (frame_keys E part frames f))) (Each-range _ 0 (length (frame_keys E part frames f)) (λ k l m. let s = short f in omega arith))
 
   pub short_all : Each IsShort (all_places E part frames)
   short_all = Each-flat_map IsShort of_frame (range_with_len 0 (length frames)) (Each-all _ _ short_frame)
 
   from_frame : (a n : ℕ) → Each (λ x. a * 4294967296 ≤ place_number x) (flat_map of_frame (range_with_len a n))
-  from_frame a n = Each-flat_map (λ x. a * 4294967296 ≤ place_number x) of_frame (range_with_len a n) (Each-range _ a n (λ k l m. each_map (λ x. a * 4294967296 ≤ place_number x) (λ i. record { frame = k; row = i }) _ (Each-all _ _ (λ i. omega arith))))
+  from_frame a n = Each-flat_map (λ x. a * 4294967296 ≤ place_number x) of_frame (range_with_len a n) (Each-range _ a n (λ k l m. Each-map (λ x. a * 4294967296 ≤ place_number x) (λ i. record { frame = k; row = i }) _ (Each-all _ _ (λ i. omega arith))))
 
   rises_from : (a n : ℕ) → Rises place_number (flat_map of_frame (range_with_len a n))
   rises_from a zero = tt
   rises_from a (suc n) = Rises-append place_number ((a + 1) * 4294967296) (of_frame a) (flat_map of_frame (range_with_len (a + 1) n)) (rises_rows a 0 (length (frame_keys E part frames a))) (rises_from (a + 1) n)
-      (each_map (λ x. place_number x ≤ (a + 1) * 4294967296) (λ i. record { frame = a; row = i }) _ (Each-range _ 0 (length (frame_keys E part frames a)) (λ k l m. let s = short a in omega arith)))
+      (Each-map (λ x. place_number x ≤ (a + 1) * 4294967296) (λ i. record { frame = a; row = i }) _ (Each-range _ 0 (length (frame_keys E part frames a)) (λ k l m. let s = short a in omega arith)))
       (from_frame (a + 1) n)
 
   -- the unmatched places of all tables, in build order
-  pub unmatched_sorted : (marked : K → Bool) (n : ℕ) → ((o : Option K) → part o < n) → (sorted : List Place) → IsPermutation (unmatched E part frames marked n) sorted → Rises place_number sorted → sorted ≡ outer_places E dec part frames marked
+  pub unmatched_sorted : (marked : K → Bool) (n : ℕ) → ((o : Option K) → part o < n) → (sorted : List RowPlace) → IsPermutation (unmatched E part frames marked n) sorted → Rises place_number sorted → sorted ≡ outer_places E dec part frames marked
   unmatched_sorted marked n below sorted perm up =
       same_sorted IsShort place_number place_injective sorted target up (Rises-filter place_number (λ x. is_outer marked (key_at E part frames x)) (all_places E part frames) (rises_from 0 (length frames)))
       (each_from_count IsShort (λ x. not (ltb x.row 4294967296)) (λ x h. ltb-true x.row 4294967296 (not-false (ltb x.row 4294967296) h)) sorted (counts (λ x. not (ltb x.row 4294967296)) ∙ count_from_each (λ x. not (ltb x.row 4294967296)) target (Each-weaker IsShort (λ x. not (ltb x.row 4294967296) ≡ false) target (λ x h. ap not (lt-ltb x.row 4294967296 h)) short_target)))
       short_target
       (λ m. counts (λ x. eqb (place_number x) m))
     where
-      target : List Place
+      target : List RowPlace
       target = outer_places E dec part frames marked
 
       short_target : Each IsShort target
       short_target = Each-filter IsShort (λ x. is_outer marked (key_at E part frames x)) (all_places E part frames) short_all
 
-      counts : (c : Place → Bool) → count_by c sorted ≡ count_by c target
+      counts : (c : RowPlace → Bool) → count_by c sorted ≡ count_by c target
       counts c = sum_by-IsPermutation (λ x. cond (c x) 1 0) (unmatched E part frames marked n) sorted perm ∙ counted E dec part frames marked c n below

@@ -8,5 +8,13 @@ pub mod Deals
 pub mod Pairs
 pub mod Unmatched
 pub mod BuildOrder
-pub mod Inserts
 pub mod Parts
+pub mod Inserts
+pub mod Sizes
+pub mod Builds
+pub mod Probes
+pub mod Found
+pub mod Fronts
+pub mod RowOrder
+pub mod Morsels
+pub mod OuterRows

@@ -6,7 +6,9 @@ use Rattle.std.proofs.lemmas.List.{length-map, get_or-map}
 use Rattle.std.proofs.lemmas.List.Folds.{flat_map-map}
 use mathlib.Core.List.{map-map}
 use Rattle.join_laws.proofs.Deals.{partners_are}
-use Rattle.join_laws.specs.Deals.{Place, all_places, frame_keys, key_at, keys_join}
+use Rattle.join_laws.specs.Deals.{all_places, frame_keys, key_at, keys_join}
+use Rattle.join_laws.specs.Places.{RowPlace}
+use Rattle.key_parts.specs.Positions.{Position}
 use Rattle.join_laws.specs.Pairs.{Pair, build_at, nested_pairs, pair_row, pairs_with, probed_pairs, with_partners}
 use Rattle.list_laws.proofs.Filters.{filter-flat_map, filter-map, filter_same}
 use Rattle.list_laws.proofs.Maps.{read_all, flat_map_agree, flat_map_same, get_or_map_all, map-flat_map}
@@ -29,12 +31,12 @@ module _ {K : Type 0} (E : K → K → Bool) (dec : (a b : K) → Decides (E a b
     abbrev pub coded : List (List (Option K))
     coded = map (map code) build
 
-    abbrev pub row_at : Place → Row
+    abbrev pub row_at : RowPlace → Row
     row_at x = build_at none probe build alone beside outer x
 
     one_frame : (q : Option K → Bool) (f : ℕ) → map row_at (filter (λ x. q (key_at E part coded x)) (map (λ i. record { frame = f; row = i }) (range_with_len 0 (length (frame_keys E part coded f))))) ≡ filter (λ r. q (code r)) (get_or build f [])
     one_frame q f =
-        let place : ℕ → Place = λ i. record { frame = f; row = i } in
+        let place : ℕ → RowPlace = λ i. record { frame = f; row = i } in
         let rows = get_or build f [] in
         let keys : frame_keys E part coded f ≡ map code rows = get_or_map_all (map code) build f [] in
         ap (map row_at) (filter-map (λ x. q (key_at E part coded x)) place (range_with_len 0 (length (frame_keys E part coded f))))
@@ -69,7 +71,7 @@ module _ {K : Type 0} (E : K → K → Bool) (dec : (a b : K) → Decides (E a b
         row : Pair → Row
         row = pair_row none probe build alone beside outer
 
-        places : Option K → List Place
+        places : Option K → List RowPlace
         places o = filter (λ x. keys_join E o (key_at E part coded x)) (all_places E part coded)
 
         wanted : Row → List Row

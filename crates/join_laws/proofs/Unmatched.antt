@@ -7,19 +7,18 @@ use Rattle.std.proofs.lemmas.List.{map-append}
 use Rattle.std.proofs.lemmas.List.Folds.{flat_map-map}
 use Rattle.std.proofs.lemmas.List.Sums.{sum_by-append}
 use Rattle.join_laws.proofs.Deals.{found, is_key_is, no_positions}
-use Rattle.join_laws.specs.Deals.{Place, all_places, build_row, chunk, dealt, frame_keys, inserted, is_key, key_at, null_positions, positions_where, present, table_keys, table_positions, unmarked_positions, unmatched}
+use Rattle.join_laws.specs.Deals.{all_places, build_row, chunk, dealt, frame_keys, inserted, is_key, key_at, null_positions, positions_where, present, table_keys, table_positions, unmarked_positions, unmatched}
+use Rattle.join_laws.specs.Outer.{is_outer}
+use Rattle.join_laws.specs.Places.{RowPlace}
+use Rattle.key_parts.specs.Positions.{Position}
 use Rattle.list_laws.proofs.Buckets.{all_bucketed}
-use Rattle.list_laws.proofs.Each.{Each-append, Each-flat_map, Each-all, Each-filtered, Each-weaker}
+use Rattle.list_laws.proofs.Each.{Each-append, Each-flat_map, Each-all, Each-filtered, Each-weaker, Each-map}
 use Rattle.list_laws.proofs.Filters.{filter_implied, filter_same}
 use Rattle.list_laws.proofs.Keys.{list_any-map, distinct_apart, same_self}
 use Rattle.list_laws.proofs.Maps.{flat_map_same, map-flat_map}
 use Rattle.list_laws.proofs.Ranges.{Each-range, eqb-Decides, in_range, range_apart}
 use Rattle.list_laws.specs.Distinct.{NoRepeat, with_new}
 use Rattle.list_laws.specs.Each.{Each}
-
-each_map : {A B : Type 0} (P : B → Type 0) (f : A → B) (xs : List A) → Each (λ a. P (f a)) xs → Each P (map f xs)
-each_map P f [] h = tt
-each_map P f (x ∷ xs) h = (h.0, each_map P f xs h.1)
 
 each_read : {A : Type 0} (P : A → Type 0) (xs : List A) (i : ℕ) (d : A) → Each P xs → i < length xs → P (get_or xs i d)
 each_read P [] i d h l = absurd (omega arith)
@@ -92,10 +91,6 @@ option_eq E None (Some k) = false
 option_eq E (Some j) None = false
 option_eq E (Some j) (Some k) = E j k
 
-abbrev pub is_outer : {K : Type 0} → (K → Bool) → Option K → Bool
-is_outer marked None = true
-is_outer marked (Some k) = not (marked k)
-
 module _ {K : Type 0} (E : K → K → Bool) (dec : (a b : K) → Decides (E a b) (a ≡ b)) where
   option_eq-Decides : (a b : Option K) → Decides (option_eq E a b) (a ≡ b)
   option_eq-Decides None None = (λ h. refl, λ h. refl)
@@ -144,17 +139,17 @@ module _ {K : Type 0} (E : K → K → Bool) (dec : (a b : K) → Decides (E a b
   none_is (Some k) h = absurd (false≢true h)
 
   module _ (part : Option K → ℕ) (frames : List (List (Option K))) (marked : K → Bool) where
-    abbrev pub outer_places : List Place
+    abbrev pub outer_places : List RowPlace
     outer_places = filter (λ x. is_outer marked (key_at E part frames x)) (all_places E part frames)
 
-    abbrev at : Place → Option K
+    abbrev at : RowPlace → Option K
     at x = key_at E part frames x
 
-    parts_inserted : (p : ℕ) → Each (λ (e : Option K × Place). part e.0 ≡ p) (inserted E part frames p)
-    parts_inserted p = Each-flat_map (λ (e : Option K × Place). part e.0 ≡ p) (chunk E part frames p) (range_with_len 0 (length frames)) (Each-all _ _ (λ f.
+    parts_inserted : (p : ℕ) → Each (λ (e : Option K × Position). part e.0 ≡ p) (inserted E part frames p)
+    parts_inserted p = Each-flat_map (λ (e : Option K × Position). part e.0 ≡ p) (chunk E part frames p) (range_with_len 0 (length frames)) (Each-all _ _ (λ f.
         let keys = frame_keys E part frames f in
         let ds = dealt E part frames p keys in
-        each_map (λ (e : Option K × Place). part e.0 ≡ p) _ (range_with_len 0 (length ds)) (Each-range _ 0 (length ds) (λ j l m.
+        Each-map (λ (e : Option K × Position). part e.0 ≡ p) _ (range_with_len 0 (length ds)) (Each-range _ 0 (length ds) (λ j l m.
         eqb-true _ p (each_read (λ i. eqb (part (get_or keys i None)) p ≡ true) ds j 0 (Each-filtered (λ i. eqb (part (get_or keys i None)) p) (range_with_len 0 (length keys))) (omega arith))))))
 
     each_present : (P : Option K → Type 0) (es : List (Option K)) → Each P es → Each (λ k. P (Some k)) (present es)
@@ -162,11 +157,11 @@ module _ {K : Type 0} (E : K → K → Bool) (dec : (a b : K) → Decides (E a b
     each_present P (None ∷ es) h = each_present P es h.1
     each_present P (Some k ∷ es) h = (h.0, each_present P es h.1)
 
-    parts_keys : (p : ℕ) → Each (λ k. part (Some k) ≡ p) (table_keys E part frames p)
-    parts_keys p = each_distinct_from E (λ k. part (Some k) ≡ p) [] (present (map (λ e. e.0) (inserted E part frames p))) tt (each_present (λ o. part o ≡ p) (map (λ e. e.0) (inserted E part frames p)) (each_map (λ o. part o ≡ p) (λ (e : Option K × Place). e.0) (inserted E part frames p) (parts_inserted p)))
+    pub parts_keys : (p : ℕ) → Each (λ k. part (Some k) ≡ p) (table_keys E part frames p)
+    parts_keys p = each_distinct_from E (λ k. part (Some k) ≡ p) [] (present (map (λ e. e.0) (inserted E part frames p))) tt (each_present (λ o. part o ≡ p) (map (λ e. e.0) (inserted E part frames p)) (Each-map (λ o. part o ≡ p) (λ (e : Option K × Position). e.0) (inserted E part frames p) (parts_inserted p)))
 
     -- a key of a build row is in its table
-    in_table : (x : Place) (k : K) → at x ≡ Some k → ((q : Place → Bool) → q x ≡ true → list_any q (all_places E part frames) ≡ true) → list_any (λ s. E s k) (table_keys E part frames (part (Some k))) ≡ true
+    in_table : (x : RowPlace) (k : K) → at x ≡ Some k → ((q : RowPlace → Bool) → q x ≡ true → list_any q (all_places E part frames) ≡ true) → list_any (λ s. E s k) (table_keys E part frames (part (Some k))) ≡ true
     in_table x k e member = elim (cases_Bool (list_any (λ s. E s k) (table_keys E part frames (part (Some k))))) [
       | inl there ↦ there
       | inr absent ↦ absurd (false≢true (
@@ -174,11 +169,11 @@ module _ {K : Type 0} (E : K → K → Bool) (dec : (a b : K) → Decides (E a b
           sym (none_from_nil (λ y. is_key E k (at y)) (all_places E part frames) none) ∙ member (λ y. is_key E k (at y)) (ap (is_key E k) e ∙ same_self E dec k)))
     ]
 
-    module _ (c : Place → Bool) where
-      count-append : (xs ys : List Place) → count_by c (xs ++ ys) ≡ count_by c xs + count_by c ys
+    module _ (c : RowPlace → Bool) where
+      count-append : (xs ys : List RowPlace) → count_by c (xs ++ ys) ≡ count_by c xs + count_by c ys
       count-append xs ys = sum_by-append (λ x. cond (c x) 1 0) xs ys
 
-      count_swap : (x y : Place) → count_by c (x ∷ y ∷ []) ≡ count_by c (y ∷ x ∷ [])
+      count_swap : (x y : RowPlace) → count_by c (x ∷ y ∷ []) ≡ count_by c (y ∷ x ∷ [])
       count_swap x y = omega arith
 
       -- one partition
@@ -186,15 +181,15 @@ module _ {K : Type 0} (E : K → K → Bool) (dec : (a b : K) → Decides (E a b
       one_part p =
           ap (count_by c) (map-append br (null_positions E part frames p) (flat_map (table_positions E part frames p) ks)
           ∙ ap₂ (λ a b. a ++ b) nulls (map-flat_map br (table_positions E part frames p) ks ∙ flat_map_same _ (λ k. filter (λ x. option_eq E (at x) (Some k)) T) ks unmarked_keys ∙ sym (flat_map-map (λ o. filter (λ x. option_eq E (at x) o) T) (λ k. Some k) ks)))
-          ∙ all_bucketed (λ (x : Place). Unit {0}) (count_by c) (λ a b. a + b) (λ xs ys gx gy. count-append xs ys) (option_eq E) option_eq-Decides at (λ x y gx gy e. count_swap x y) T (None ∷ map (λ k. Some k) ks) (Each-all _ T (λ x. tt)) (none_among ks, somes_apart ks (no_repeat_filter E (λ k. not (marked k)) (table_keys E part frames p) (distinct_apart E dec (present (map (λ e. e.0) (inserted E part frames p)))))) classes
+          ∙ all_bucketed (λ (x : RowPlace). Unit {0}) (count_by c) (λ a b. a + b) (λ xs ys gx gy. count-append xs ys) (option_eq E) option_eq-Decides at (λ x y gx gy e. count_swap x y) T (None ∷ map (λ k. Some k) ks) (Each-all _ T (λ x. tt)) (none_among ks, somes_apart ks (no_repeat_filter E (λ k. not (marked k)) (table_keys E part frames p) (distinct_apart E dec (present (map (λ e. e.0) (inserted E part frames p)))))) classes
         where
-          br : Place → Place
+          br : Position → RowPlace
           br = build_row E part frames p
 
           ks : List K
           ks = filter (λ k. not (marked k)) (table_keys E part frames p)
 
-          T : List Place
+          T : List RowPlace
           T = filter (λ x. eqb (part (at x)) p) outer_places
 
           same_place : (q : Option K → Bool) → ((o : Option K) → q o ≡ true → part o ≡ p) → ((o : Option K) → q o ≡ true → is_outer marked o ≡ true) → map br (positions_where E part frames q p) ≡ filter (λ x. q (at x)) T
@@ -214,7 +209,7 @@ module _ {K : Type 0} (E : K → K → Bool) (dec : (a b : K) → Decides (E a b
           nulls = elim (cases_Bool (eqb (part None) p)) [
             | inl here ↦ same_place is_none (λ o e. ap part (none_is o e) ∙ eqb-true (part None) p here) outer_none ∙ to_option is_none None is_none_eq
             | inr other ↦
-                ap (λ es. map br (map (λ e. e.1) es)) (filter_empty (λ e. is_none e.0) (inserted E part frames p) (Each-weaker (λ (e : Option K × Place). part e.0 ≡ p) (λ e. is_none e.0 ≡ false) (inserted E part frames p) (λ e h. not_none e.0 other h) (parts_inserted p)))
+                ap (λ es. map br (map (λ e. e.1) es)) (filter_empty (λ e. is_none e.0) (inserted E part frames p) (Each-weaker (λ (e : Option K × Position). part e.0 ≡ p) (λ e. is_none e.0 ≡ false) (inserted E part frames p) (λ e h. not_none e.0 other h) (parts_inserted p)))
                 ∙ sym (filter_empty (λ x. option_eq E (at x) None) T (Each-weaker (λ x. eqb (part (at x)) p ≡ true) (λ x. option_eq E (at x) None ≡ false) T (λ x h. is_none_eq (at x) ∙ not_none (at x) other (eqb-true (part (at x)) p h)) (Each-filtered (λ x. eqb (part (at x)) p) outer_places)))
           ]
             where
@@ -229,14 +224,14 @@ module _ {K : Type 0} (E : K → K → Bool) (dec : (a b : K) → Decides (E a b
           classes : Each (λ x. list_any (λ s. option_eq E s (at x)) (None ∷ map (λ k. Some k) ks) ≡ true) T
           classes = each_filter_if _ (λ x. eqb (part (at x)) p) outer_places (each_filter_if _ (λ x. is_outer marked (at x)) (all_places E part frames) (each_member _ (all_places E part frames) (λ x member ho hp. go x member (at x) refl ho hp)))
             where
-              go : (x : Place) → ((q : Place → Bool) → q x ≡ true → list_any q (all_places E part frames) ≡ true) → (o : Option K) → at x ≡ o → is_outer marked o ≡ true → eqb (part o) p ≡ true → list_any (λ s. option_eq E s o) (None ∷ map (λ k. Some k) ks) ≡ true
+              go : (x : RowPlace) → ((q : RowPlace → Bool) → q x ≡ true → list_any q (all_places E part frames) ≡ true) → (o : Option K) → at x ≡ o → is_outer marked o ≡ true → eqb (part o) p ≡ true → list_any (λ s. option_eq E s o) (None ∷ map (λ k. Some k) ks) ≡ true
               go x member None e ho hp = refl
               go x member (Some k) e ho hp = some_among ks k ∙ any_filter (λ k. not (marked k)) (table_keys E part frames p) k (subst (λ (r : ℕ). list_any (λ s. E s k) (table_keys E part frames r) ≡ true) (eqb-true (part (Some k)) p hp) (in_table x k e member)) ho
 
       pub counted : (n : ℕ) → ((o : Option K) → part o < n) → count_by c (unmatched E part frames marked n) ≡ count_by c outer_places
       counted n below =
           all_parts (range_with_len 0 n)
-          ∙ all_bucketed (λ (x : Place). Unit {0}) (count_by c) (λ a b. a + b) (λ xs ys gx gy. count-append xs ys) eqb eqb-Decides (λ x. part (at x)) (λ x y gx gy e. count_swap x y) outer_places (range_with_len 0 n) (Each-all _ outer_places (λ x. tt)) (range_apart 0 n) (Each-all _ outer_places (λ x. let small = below (at x) in in_range 0 n (part (at x)) (omega arith) (omega arith)))
+          ∙ all_bucketed (λ (x : RowPlace). Unit {0}) (count_by c) (λ a b. a + b) (λ xs ys gx gy. count-append xs ys) eqb eqb-Decides (λ x. part (at x)) (λ x y gx gy e. count_swap x y) outer_places (range_with_len 0 n) (Each-all _ outer_places (λ x. tt)) (range_apart 0 n) (Each-all _ outer_places (λ x. let small = below (at x) in in_range 0 n (part (at x)) (omega arith) (omega arith)))
         where
           all_parts : (ps : List ℕ) → count_by c (flat_map (λ p. map (build_row E part frames p) (unmarked_positions E part frames marked p)) ps) ≡ count_by c (flat_map (λ p. filter (λ x. eqb (part (at x)) p) outer_places) ps)
           all_parts [] = refl

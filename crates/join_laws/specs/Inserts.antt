@@ -1,27 +1,15 @@
--- A table as rows come.
-use Rattle.std.specs.Prelude.{Bool, false, cond, List, [], ◌∷◌, ◌++◌, map, filter, Option, Some, None}
-use Rattle.join_laws.specs.Deals.{Place, is_key, present}
+-- The entries of a table that has taken some rows.
+use Rattle.std.specs.Prelude.{ℕ, false, List, map, filter, bytes_eq}
+use Rattle.key_parts.specs.Positions.{Position}
+use Rattle.hash_keys.specs.Keys.{Key}
+use Rattle.chunked_idx_table.specs.Tables.{KeyEntry}
+use Rattle.join_laws.specs.Deals.{is_key, present}
 use Rattle.list_laws.specs.Distinct.{distinct}
 
-pub record Slot (K : Type 0) : Type 0 where
-  pub key : K
-  pub positions : List Place
-  pub marked : Bool
-
--- a position under a key
-abbrev pub with_position : {K : Type 0} → (K → K → Bool) → List (Slot K) → K → Place → List (Slot K)
-with_position E [] k x = record { key = k; positions = x ∷ []; marked = false } ∷ []
-with_position E (s ∷ ss) k x = cond (E s.key k) (record { key = s.key; positions = s.positions ++ x ∷ []; marked = s.marked } ∷ ss) (s ∷ with_position E ss k x)
-
--- a row, whose key may be null
-abbrev pub with_row : {K : Type 0} → (K → K → Bool) → List (Slot K) → Option K × Place → List (Slot K)
-with_row E ss (None, x) = ss
-with_row E ss (Some k, x) = with_position E ss k x
-
 -- the positions of a key among rows
-abbrev pub positions_of : {K : Type 0} → (K → K → Bool) → List (Option K × Place) → K → List Place
-positions_of E es k = map (λ e. e.1) (filter (λ e. is_key E k e.0) es)
+abbrev pub positions_of : List (Key × Position) → List ℕ → List Position
+positions_of rows key = map (λ r. r.1) (filter (λ r. is_key bytes_eq key r.0) rows)
 
--- the unmarked table of some rows
-abbrev pub slots_of : {K : Type 0} → (K → K → Bool) → List (Option K × Place) → List (Slot K)
-slots_of E es = map (λ k. record { key = k; positions = positions_of E es k; marked = false }) (distinct E (present (map (λ e. e.0) es)))
+-- an entry for each distinct key, none marked
+abbrev pub entries_of : List (Key × Position) → List KeyEntry
+entries_of rows = map (λ key. record { key = key; positions = positions_of rows key; marked = false }) (distinct bytes_eq (present (map (λ r. r.0) rows)))

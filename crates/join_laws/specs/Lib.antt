@@ -1,5 +1,8 @@
 pub mod Locals
 pub mod Steps
+pub mod Places
 pub mod Deals
 pub mod Pairs
 pub mod Inserts
+pub mod Outer
+pub mod Partitions

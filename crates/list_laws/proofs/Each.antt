@@ -1,5 +1,5 @@
 -- What holds of each item of a list.
-use Rattle.std.proofs.Common.{◌≡◌, zero, suc, Bool, true, false, cond, List, [], ◌∷◌, ◌++◌, filter, flat_map, refl, arith}
+use Rattle.std.proofs.Common.{◌≡◌, zero, suc, Bool, true, false, cond, List, [], ◌∷◌, ◌++◌, map, filter, flat_map, refl, arith}
 use Rattle.std.specs.List.{All}
 use Rattle.list_laws.specs.Each.{Each}
 
@@ -32,6 +32,10 @@ Each-all P (x ∷ xs) f = (f x, Each-all P xs f)
 pub Each-flat_map : {A B : Type 0} (P : B → Type 0) (f : A → List B) (xs : List A) → Each (λ a. Each P (f a)) xs → Each P (flat_map f xs)
 Each-flat_map P f [] h = tt
 Each-flat_map P f (x ∷ xs) h = Each-append P (f x) (flat_map f xs) h.0 (Each-flat_map P f xs h.1)
+
+pub Each-map : {A B : Type 0} (P : B → Type 0) (f : A → B) (xs : List A) → Each (λ a. P (f a)) xs → Each P (map f xs)
+Each-map P f [] h = tt
+Each-map P f (x ∷ xs) h = (h.0, Each-map P f xs h.1)
 
 -- from what holds by place, and back
 pub Each-from_All : {X : Type 0} (P : X → Type 0) (xs : List X) → All P xs → Each P xs

@@ -12,3 +12,5 @@ pub mod Ascending
 pub mod Ranges
 pub mod Orders
 pub mod Runs
+pub mod Lists
+pub mod Cuts

@@ -4,3 +4,4 @@ pub mod Ascending
 pub mod Orders
 pub mod Runs
 pub mod Places
+pub mod Cuts
