@@ -1,18 +1,20 @@
 -- Keys that are found and marked, and rows that are answered.
 use Rattle.std.proofs.Common.{◌≡◌, ℕ, zero, suc, ◌+◌, ◌-◌, ◌<◌, ◌≤◌, Bool, true, false, not, ◌&&◌, ◌||◌, cond, List, [], ◌∷◌, ◌++◌, map, length, take, get_or, slice_get, slice_index_or, Option, Some, None, is_some, bytes_eq, refl, sym, ap, ap₂, subst, ◌∙◌, inl, inr, append-nil, arith}
-use Rattle.std.specs.Prelude.{option_copied, IfSome}
+use Rattle.std.specs.Prelude.{option_copied, unwrap_or, IfSome}
 use Rattle.std.specs.Borrow.{Bor}
-use Rattle.std.specs.List.{All, flat_map, list_any, position, position_or_len}
+use Rattle.std.specs.List.{All, flat_map, list_any, position, position_or_len, range_with_len}
 use Rattle.std.proofs.lemmas.Bool.{cases_Bool, cases_lt, false≢true, lt-ltb, or_parts}
 use Rattle.std.proofs.lemmas.List.{length-map, map-append, take_more}
 use Rattle.std.proofs.lemmas.List.Concat.{flat_map-append}
-use Rattle.std.proofs.lemmas.List.Elements.{All-head, All-tail, All-cons}
+use Rattle.std.proofs.lemmas.List.Elements.{All-head, All-tail, All-cons, All-map, All-weaker, All-get_or, All-from_get_or}
+use Rattle.std.proofs.lemmas.List.FromFn.{length-range_with_len}
 use Rattle.std.proofs.lemmas.List.Folds.{list_any-append}
 use Rattle.std.proofs.lemmas.List.Sums.{prefix_len_passes, fold_push}
 use Rattle.std.proofs.lemmas.List.Quantifiers.{position-Some}
 use Rattle.std.proofs.lemmas.Slice.Eq.{bytes_eq-Decides}
 use Rattle.key_parts.specs.declared.hash.PlRandomState.{PlRandomState}
-use Rattle.key_parts.specs.Positions.{Position}
+use Rattle.key_parts.specs.declared.chunk_id.ChunkId.{ChunkId}
+use Rattle.key_parts.specs.Positions.{Position, position as id_position}
 use Rattle.key_parts.specs.Hashes.{hash_of}
 use Rattle.hash_keys.specs.Keys.{Key, key_at}
 use Rattle.list_laws.specs.Distinct.{NoRepeat}
@@ -20,8 +22,8 @@ use Rattle.byte_map.specs.Entries.{Entry, keys_of, hashes_of, values_of, ComesWi
 use Rattle.byte_map.specs.Lending.{with_value}
 use Rattle.chunked_idx_table.specs.Tables.{KeyEntry, ProbeTable, table_keys}
 use Rattle.chunked_idx_table.specs.Inserts.{searches}
-use Rattle.chunked_idx_table.specs.Probes.{found, matches, or_null, is_key, joins_any, keys_at, mark_entry, marked_more, with_marks, row_matches, row_indexes, Answered}
-use Rattle.chunked_idx_table.specs.Words.{Words, position_kept, has_mark, key_entry, IsKept}
+use Rattle.chunked_idx_table.specs.Probes.{found, matches, or_null, is_key, joins_any, keys_at, mark_entry, marked_more, with_marks, row_matches, row_indexes, all_rows, asked_rows, Answered}
+use Rattle.chunked_idx_table.specs.Words.{Words, position_kept, has_mark, key_entry, position_at, first_position, IsKept}
 use Rattle.chunked_idx_table.proofs.Resumed.{matches_marked}
 
 some_same : {X : Type 0} {x y : X} → Some x ≡ Some y → x ≡ y
@@ -269,3 +271,112 @@ some_copied (Some b) = refl
 -- what is said of each row that is asked for
 pub length-seen : {X Y : Type 0} (f : X → Y) (xs : List X) (ys : List Y) → map f xs ≡ ys → length xs ≡ length ys
 length-seen f xs ys e = sym (length-map xs f) ∙ ap length e
+
+-- what is kept of an entry, at an index
+pub marked_at : (es : List (Entry Words)) (i : ℕ) (v : Words) → slice_get (values_of es) i ≡ Some v → slice_get (map (λ e. e.marked) (map key_entry es)) i ≡ Some (has_mark v.items)
+marked_at [] i v at = absurd (let no : None ≡ Some v = at in cc)
+marked_at (e ∷ es) zero v at = ap (λ (w : Words). Some (has_mark w.items)) (some_same at)
+marked_at (e ∷ es) (suc i) v at = marked_at es i v at
+
+pub positions_at : (es : List (Entry Words)) (i : ℕ) (v : Words) → slice_get (values_of es) i ≡ Some v → slice_get (map (λ e. e.positions) (map key_entry es)) i ≡ Some (map position_kept v.items)
+positions_at [] i v at = absurd (let no : None ≡ Some v = at in cc)
+positions_at (e ∷ es) zero v at = ap (λ (w : Words). Some (map position_kept w.items)) (some_same at)
+positions_at (e ∷ es) (suc i) v at = positions_at es i v at
+
+-- each key has a position
+pub have_positions : (state : PlRandomState) (es : List (Entry Words)) → All (IsKept state) es → All (λ e. 0 < length e.positions) (map key_entry es)
+have_positions state es kept =
+    let P : KeyEntry → Type 0 = λ e. 0 < length e.positions in
+    let Q : Entry Words → Type 0 = λ e. P (key_entry e) in
+    All-map P key_entry es (All-weaker (IsKept state) Q (λ e k. rw (length-map e.value.items position_kept) k.some) es kept)
+
+-- a key that is null, or absent, or not to be marked leaves all as it is
+pub nothing_marked : (t : ProbeTable) → marked_more (λ _. false) t ≡ t
+unfolding with_entries
+nothing_marked t = ap (with_entries t) (none_marked t.entries)
+
+pub null_unmarked : (marks : Bool) (t : ProbeTable) → t ≡ marked_more (λ k. marks && is_key k None) t
+null_unmarked true t = sym (nothing_marked t)
+null_unmarked false t = sym (nothing_marked t)
+
+pub absent_unmarked : (marks : Bool) (key : List ℕ) (t : ProbeTable) → marked_more (only key) t ≡ t → t ≡ marked_more (λ k. marks && is_key k (Some key)) t
+absent_unmarked true key t h = sym h
+absent_unmarked false key t h = sym (nothing_marked t)
+
+-- the rows that are asked for where there is no subset
+range_from : (a n i : ℕ) → i < n → get_or (range_with_len a n) i 0 ≡ a + i
+range_from a zero i h = absurd (omega arith)
+range_from a (suc n) zero h = let e : a ≡ a + 0 = omega arith in e
+range_from a (suc n) (suc i) h = range_from (a + 1) n i (omega arith) ∙ (let e : a + 1 + i ≡ a + suc i = omega arith in e)
+
+pub all_at : (subset : Option (Bor (List ℕ))) (keys : List Key) (i : ℕ) → subset ≡ None → i < length (asked_rows keys (option_copied subset)) → i ≡ get_or (asked_rows keys (option_copied subset)) i 0
+all_at None keys i none h = sym (range_from 0 (length keys) i (omega (arith, length-range_with_len 0 (length keys))) ∙ (let e : 0 + i ≡ i = omega arith in e))
+all_at (Some b) keys i none h = absurd (let no : Some b ≡ None = none in cc)
+
+pub all_counted : (subset : Option (Bor (List ℕ))) (keys : List Key) → subset ≡ None → length (asked_rows keys (option_copied subset)) ≡ length keys
+all_counted None keys none = length-range_with_len 0 (length keys)
+all_counted (Some b) keys none = absurd (let no : Some b ≡ None = none in cc)
+
+-- all rows are rows
+pub all_inside : (keys : List Key) → All (λ i. i < length keys) (all_rows keys)
+all_inside keys =
+    let P : ℕ → Type 0 = λ i. i < length keys in
+    let long = length-range_with_len 0 (length keys) in
+    All-from_get_or P (all_rows keys) 0 (λ i h. let l : i < length keys = omega (arith, long) in rw (range_from 0 (length keys) i l) (omega arith))
+
+some_map : {X Y : Type 0} (f : X → Y) (xs : List X) → map (λ x. Some (f x)) xs ≡ map (λ y. Some y) (map f xs)
+some_map f [] = refl
+some_map f (x ∷ xs) = ap (λ rest. Some (f x) ∷ rest) (some_map f xs)
+
+-- the null positions as they are kept
+pub nulls_seen : (ids : List ChunkId) → map id_position ids ≡ map (λ id. Some (position_at id)) ids → map id_position ids ≡ map (λ x. Some x) (map position_at ids)
+nulls_seen ids h = h ∙ some_map position_at ids
+
+-- one position more
+pub nulls_kept : (ids : List ChunkId) (id : ChunkId) (x : Position) → map id_position ids ≡ map (λ id. Some (position_at id)) ids → id_position id ≡ Some x → map id_position (ids ++ id ∷ []) ≡ map (λ id. Some (position_at id)) (ids ++ id ∷ [])
+nulls_kept ids id x h at =
+    let here : id_position id ≡ Some (position_at id) = at ∙ ap (λ (o : Option Position). Some (unwrap_or o first_position)) (sym at) in
+    map-append id_position ids (id ∷ []) ∙ ap₂ (λ (ps qs : List (Option Position)). ps ++ qs) h (ap (λ (o : Option Position). o ∷ []) here) ∙ sym (map-append (λ id. Some (position_at id)) ids (id ∷ []))
+
+pub null_pushed : (ids : List ChunkId) (id : ChunkId) (x : Position) → id_position id ≡ Some x → map position_at (ids ++ id ∷ []) ≡ map position_at ids ++ x ∷ []
+null_pushed ids id x at = map-append position_at ids (id ∷ []) ∙ ap (λ (o : Option Position). map position_at ids ++ unwrap_or o first_position ∷ []) at
+
+-- steps of searches, as rows are answered
+pub probe_cost_step : (keys : List Key) (idxs : List ℕ) (i row : ℕ) (key : Option (Bor (List ℕ))) (start now new : ℕ) → i < length idxs → row ≡ get_or idxs i 0 → option_copied key ≡ key_at keys row
+    → now ≡ start + searches (keys_at keys (take i idxs)) → new ≡ now + cond (is_some key) 1 0 → new ≡ start + searches (keys_at keys (take (i + 1) idxs))
+probe_cost_step keys idxs i row key start now new h at is before after =
+    let same : is_some key ≡ is_some (key_at keys row) = sym (some_copied key) ∙ ap is_some is in
+    let step = searches_step keys idxs i row h at in
+    let more = rw same at after in
+    omega (arith, before, more, step)
+
+-- a row that is asked for is a row
+pub row_inside : (keys : List Key) (idxs : List ℕ) (i row : ℕ) → All (λ j. j < length keys) idxs → i < length idxs → row ≡ get_or idxs i 0 → row < length keys
+row_inside keys idxs i row inside h at =
+    let P : ℕ → Type 0 = λ j. j < length keys in
+    let l : get_or idxs i 0 < length keys = All-get_or P idxs i 0 h inside in
+    omega (arith, l, at)
+
+-- a place in a subset
+pub place_inside : (subset : Option (Bor (List ℕ))) (keys : List Key) (i : ℕ) → i < length (asked_rows keys (option_copied subset)) → IfSome subset (λ rows. i < length rows.now)
+place_inside None keys i h = tt
+place_inside (Some b) keys i h = h
+
+-- a turn of the loop that answers: the row's key is lent
+pub answered_turn : (marks emit : Bool) (old : ProbeTable) (keys : List Key) (idxs : List ℕ) (i row : ℕ) (key : Key) (now new : ProbeTable) (ps ps' : List (Option Position)) (is is' : List ℕ)
+    → i < length idxs → row ≡ get_or idxs i 0 → key ≡ key_at keys row
+    → Answered marks emit old keys (take i idxs) now ps is
+    → ps' ≡ ps ++ matches now.entries emit key
+    → is' ≡ is ++ map (λ _. row) (matches now.entries emit key)
+    → new ≡ marked_more (λ k. marks && is_key k key) now
+    → Answered marks emit old keys (take (i + 1) idxs) new ps' is'
+answered_turn marks emit old keys idxs i row key now new ps ps' is is' h at lent a more more_indexes marked =
+    answered_step marks emit old keys idxs i row now new ps ps' is is' h at a
+    (more ∙ ap (λ (k : Key). ps ++ matches now.entries emit k) lent)
+    (more_indexes ∙ ap (λ (k : Key). is ++ map (λ _. row) (matches now.entries emit k)) lent)
+    (marked ∙ ap (λ (q : Key). marked_more (λ k. marks && is_key k q) now) lent)
+
+-- what is as it was is answered as it was
+pub answered_same : (marks emit : Bool) (old : ProbeTable) (keys : List Key) (idxs : List ℕ) (now new : ProbeTable) (ps ps' : List (Option Position)) (is is' : List ℕ)
+    → Answered marks emit old keys idxs now ps is → ps' ≡ ps → is' ≡ is → new ≡ now → Answered marks emit old keys idxs new ps' is'
+answered_same marks emit old keys idxs now new ps ps' is is' a p q r = record { positions_are = p ∙ a.positions_are; indexes_are = q ∙ a.indexes_are; marks_are = r ∙ a.marks_are }

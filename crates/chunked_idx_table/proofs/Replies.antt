@@ -2,7 +2,7 @@
 use Rattle.std.proofs.Common.{◌≡◌, ℕ, zero, suc, ◌+◌, ◌-◌, ◌<◌, ◌≤◌, max, cond, List, [], ◌∷◌, ◌++◌, length, take, drop, refl, sym, ap, ◌∙◌, inl, inr, arith}
 use Rattle.std.specs.List.{flat_map}
 use Rattle.std.proofs.lemmas.Bool.{le-leb, lt-leb, cases_lt}
-use Rattle.std.proofs.lemmas.List.{length-append}
+use Rattle.std.proofs.lemmas.List.{length-append, take_all}
 use Rattle.chunked_idx_table.specs.Replies.{processed, replied, most_answers}
 
 -- a reply takes one at least, where any is left
@@ -46,3 +46,13 @@ processed_all f limit (q ∷ qs) h =
     let l0 = length-append (f q) (flat_map f qs) in
     let few = h (omega arith) in
     rw (lt-leb limit (length (f q)) (omega arith)) (ap suc (processed_all f (limit - length (f q)) qs (λ _. omega arith)))
+
+-- the same of numbers of answers
+pub counted_at : {Q A : Type 0} (f : Q → List A) (limit : ℕ) (qs : List Q) (i m m' : ℕ) → i < length qs → m ≡ length (flat_map f (take i qs)) → (0 < i → m < limit) → m' ≡ length (flat_map f (take (i + 1) qs)) → limit ≤ m' → i + 1 ≡ processed f limit qs
+counted_at f limit qs i m m' h was before is now = sym (processed_at f limit qs i h (λ p. let b = before p in omega (arith, b, was)) (omega (arith, is, now)))
+
+pub counted_all : {Q A : Type 0} (f : Q → List A) (limit : ℕ) (qs : List Q) (n m : ℕ) → n ≡ length qs → m ≡ length (flat_map f (take n qs)) → (0 < n → m < limit) → n ≡ processed f limit qs
+counted_all f limit qs n m all is before =
+    let whole : take n qs ≡ qs = take_all n qs (omega arith) in
+    let long : m ≡ length (flat_map f qs) = is ∙ ap (λ rest. length (flat_map f rest)) whole in
+    all ∙ sym (processed_all f limit qs (λ p. let b = before (omega arith) in omega (arith, b, long)))

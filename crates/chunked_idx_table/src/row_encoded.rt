@@ -286,6 +286,25 @@ impl RowEncodedChunkedIdxTable {
         }
         push_positions(words, out)
     }
+
+    /// Lists what the items from an offset on give, until there are as many positions as the limit, or more.
+    fn list_items(&self, out: &mut Vec<ChunkId>, offset: u32, limit: u32) -> Result<u32, AllocError>
+        requires { out.old.items ≡ [] }
+        ensures count { IfOk result (λ n. n ≡ processed (λ x. x) limit (drop offset (items self.now))) }
+        ensures ok {
+            IfOk result (λ n. map position out.new.items
+                ≡ map (λ x. Some x) (flat_map (λ x. x) (take n (drop offset (items self.now)))))
+        }
+    {
+        let count = (self.num_keys() + self.num_null_rows()).saturating_sub(offset);
+        for i in 0..count {
+            self.push_item(offset + i, out)?;
+            if out.len() >= limit as usize {
+                return Ok(i + 1);
+            }
+        }
+        Ok(count)
+    }
 }
 
 /// How many rows are asked for.
@@ -423,16 +442,12 @@ impl ChunkedIdxTable for RowEncodedChunkedIdxTable {
         limit: IdxSize,
     ) -> Result<IdxSize, AllocError> {
         out.clear();
-        let count = (self.num_keys() + self.num_null_rows()).saturating_sub(offset);
-        for i in 0..count {
-            if self.push_item(offset + i, out).is_err() {
+        match self.list_items(out, offset, limit) {
+            Ok(count) => Ok(count),
+            Err(failed) => {
                 out.clear();
-                return Err(AllocError);
-            }
-            if out.len() >= limit as usize {
-                return Ok(i + 1);
+                Err(failed)
             }
         }
-        Ok(count)
     }
 }
