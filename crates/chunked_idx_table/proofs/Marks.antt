@@ -1,5 +1,5 @@
 -- Keys that are found and marked, and rows that are answered.
-use Rattle.std.proofs.Common.{◌≡◌, ℕ, zero, suc, ◌+◌, ◌-◌, ◌<◌, ◌≤◌, Bool, true, false, not, ◌&&◌, ◌||◌, cond, List, [], ◌∷◌, ◌++◌, map, length, take, get_or, slice_get, slice_index_or, Option, Some, None, is_some, bytes_eq, refl, sym, ap, ap₂, subst, ◌∙◌, inl, inr, append-nil, arith}
+use Rattle.std.proofs.Common.{◌≡◌, ℕ, zero, suc, ◌+◌, ◌-◌, ◌<◌, ◌≤◌, Bool, true, false, not, ◌&&◌, ◌||◌, cond, List, [], ◌∷◌, ◌++◌, map, length, take, get_or, slice_get, slice_index, slice_index_or, Option, Some, None, is_some, bytes_eq, refl, sym, ap, ap₂, subst, ◌∙◌, inl, inr, append-nil, arith}
 use Rattle.std.specs.Prelude.{option_copied, unwrap_or, IfSome}
 use Rattle.std.specs.Borrow.{Bor}
 use Rattle.std.specs.List.{All, flat_map, list_any, position, position_or_len, range_with_len}
@@ -49,13 +49,13 @@ keys_seen [] = refl
 keys_seen (e ∷ es) = ap (λ ks. e.key ∷ ks) (keys_seen es)
 
 -- each key comes with the hash that was kept
+comes_at : (state : PlRandomState) (es : List (Entry Words)) (hash : ℕ) (key : List ℕ) → All (IsKept state) es → hash ≡ hash_of state key → (i : ℕ) → i < length es → slice_index_or (keys_of es) i [] ≡ key → slice_index (hashes_of es) i ≡ hash
+comes_at state [] hash key kept h i l same = absurd (omega arith)
+comes_at state (e ∷ es) hash key kept h zero l same = (All-head (IsKept state) e es kept).hashed ∙ ap (hash_of state) same ∙ sym h
+comes_at state (e ∷ es) hash key kept h (suc i) l same = comes_at state es hash key (All-tail (IsKept state) e es kept) h i (omega arith) same
+
 pub comes_kept : (state : PlRandomState) (es : List (Entry Words)) (hash : ℕ) (key : List ℕ) → All (IsKept state) es → hash ≡ hash_of state key → ComesWith es hash key
-comes_kept state [] hash key kept h = λ i l same. absurd (omega arith)
-comes_kept state (e ∷ es) hash key kept h = λ i l same. at i l same
-  where
-    at : (i : ℕ) → i < length (e ∷ es) → slice_index_or (keys_of (e ∷ es)) i [] ≡ key → slice_index_or (hashes_of (e ∷ es)) i 0 ≡ hash
-    at zero l same = (All-head (IsKept state) e es kept).hashed ∙ ap (hash_of state) same ∙ sym h
-    at (suc i) l same = comes_kept state es hash key (All-tail (IsKept state) e es kept) h i (omega arith) same
+comes_kept state es hash key kept h = λ i l same. comes_at state es hash key kept h i l same
 
 -- a key that stands nowhere is no key
 pub none_each : (keys : List (List ℕ)) (key : List ℕ) → position (bytes_eq key) keys ≡ None → (j : ℕ) → j < length keys → bytes_eq key (get_or keys j []) ≡ false
@@ -324,7 +324,7 @@ all_inside keys =
     let long = length-range_with_len 0 (length keys) in
     All-from_get_or P (all_rows keys) 0 (λ i h. let l : i < length keys = omega (arith, long) in rw (range_from 0 (length keys) i l) (omega arith))
 
-some_map : {X Y : Type 0} (f : X → Y) (xs : List X) → map (λ x. Some (f x)) xs ≡ map (λ y. Some y) (map f xs)
+pub some_map : {X Y : Type 0} (f : X → Y) (xs : List X) → map (λ x. Some (f x)) xs ≡ map (λ y. Some y) (map f xs)
 some_map f [] = refl
 some_map f (x ∷ xs) = ap (λ rest. Some (f x) ∷ rest) (some_map f xs)
 
@@ -380,3 +380,7 @@ answered_turn marks emit old keys idxs i row key now new ps ps' is is' h at lent
 pub answered_same : (marks emit : Bool) (old : ProbeTable) (keys : List Key) (idxs : List ℕ) (now new : ProbeTable) (ps ps' : List (Option Position)) (is is' : List ℕ)
     → Answered marks emit old keys idxs now ps is → ps' ≡ ps → is' ≡ is → new ≡ now → Answered marks emit old keys idxs new ps' is'
 answered_same marks emit old keys idxs now new ps ps' is is' a p q r = record { positions_are = p ∙ a.positions_are; indexes_are = q ∙ a.indexes_are; marks_are = r ∙ a.marks_are }
+
+-- no row is answered yet
+pub answered_none : (marks emit : Bool) (t : ProbeTable) (keys : List Key) (ps : List (Option Position)) (is : List ℕ) → ps ≡ [] → is ≡ [] → Answered marks emit t keys [] t ps is
+answered_none marks emit t keys ps is p q = record { positions_are = p; indexes_are = q; marks_are = null_unmarked marks t }

@@ -194,3 +194,12 @@ listed_turn xs i item ps ps' h at so_far more =
     more ∙ ap₂ (λ (qs : List (Option Position)) (ys : List Position). qs ++ map (λ x. Some x) ys) so_far at
     ∙ sym (map-append (λ x. Some x) (flat_map (λ x. x) (take i xs)) (get_or xs i []))
     ∙ ap (map (λ x. Some x)) (sym (item_more xs i h))
+
+-- what the item of an entry gives
+pub item_entry : (es : List (Entry Words)) (t : ProbeTable) (i n : ℕ) (v : Words) → map key_entry es ≡ t.entries → n ≡ length t.nulls → n ≤ i → slice_get (values_of es) (i - n) ≡ Some v
+    → get_or (items t) i [] ≡ cond (has_mark v.items) [] (map position_kept v.items)
+item_entry es t i n v seen long h at =
+    item_key t i (omega arith)
+    ∙ ap (λ (m : ℕ). get_or (map positions_of t.entries) (i - m) []) (sym long)
+    ∙ ap (λ (entries : List KeyEntry). get_or (map positions_of entries) (i - n) []) (sym seen)
+    ∙ entry_item es (i - n) v at

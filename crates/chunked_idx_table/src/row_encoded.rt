@@ -16,6 +16,7 @@ ghost use Rattle.chunked_idx_table.specs.Words.{position_kept};
 use crate::table::ChunkedIdxTable;
 use crate::words::{Words, is_marked, mark, push_matches, push_positions, push_unmatched, push_word};
 use byte_map::{BytesIndexMap, Found};
+use col_core::Schema;
 use hash_keys::HashKeys;
 use key_parts::{ChunkId, IdxSize, PlRandomState};
 use std::alloc::{AllocError, Global};
@@ -147,7 +148,7 @@ impl RowEncodedChunkedIdxTable {
         requires inside {
             All (λ i. i < length (keys_of hash_keys.now)) (asked_rows (keys_of hash_keys.now) (option_copied subset))
         }
-        requires few { length (asked_rows (keys_of hash_keys.now) (option_copied subset)) < 2 ^ 32 }
+        requires few { IfSome subset (λ rows. length rows.now < 2 ^ 32) }
         requires same_state { state_of hash_keys.now ≡ self.old.state }
         ensures count {
             IfOk result (λ n. n ≡ processed (row_matches self.old (keys_of hash_keys.now) emit_unmatched) limit
@@ -307,9 +308,20 @@ impl RowEncodedChunkedIdxTable {
     }
 }
 
+/// A table without a row, for keys of a schema, which does not matter: keys come as bytes.
+pub fn new_chunked_idx_table(
+    alloc: Global,
+    _key_schema: &Schema,
+    random_state: PlRandomState,
+) -> Result<RowEncodedChunkedIdxTable, AllocError>
+    ensures { IfOk result (λ t. t ≡ empty_table random_state) }
+{
+    RowEncodedChunkedIdxTable::new(alloc, random_state)
+}
+
 /// How many rows are asked for.
 fn number_asked(hash_keys: &HashKeys, subset: Option<&[IdxSize]>) -> u32
-    requires { length (asked_rows (keys_of hash_keys.now) (option_copied subset)) < 2 ^ 32 }
+    requires { IfSome subset (λ rows. length rows.now < 2 ^ 32) }
     ensures { result ≡ length (asked_rows (keys_of hash_keys.now) (option_copied subset.entry)) }
 {
     match subset {

@@ -1,4 +1,4 @@
-use Rattle.std.proofs.Common.{◌≡◌, ◌∙◌, ◌++◌, ◌&&◌, ap, sym, map, List, ℕ, Bool, Option, Some, None, option_copied}
+use Rattle.std.proofs.Common.{◌≡◌, ◌∙◌, ◌++◌, ◌&&◌, refl, ap, sym, map, List, ℕ, Bool, Option, Some, None, option_copied}
 use Rattle.std.specs.Borrow.{Bor}
 use Rattle.std.proofs.lemmas.Result.{on_ok_weaker}
 use Rattle.key_parts.specs.Positions.{Position}
@@ -13,13 +13,15 @@ abbrev marked_as : Bool → ProbeTable → Option (Bor (List ℕ)) → ProbeTabl
 marked_as marks t key = marked_more (λ k. marks && is_key k (option_copied key)) t
 
 pub returns-in_default-clause-marked : goal.returns-in_default-clause-marked
-returns-in_default-clause-marked g c = ?
+returns-in_default-clause-marked g c =
+    let e = null_unmarked c.args.marks c.args.self.now ∙ ap (marked_as c.args.marks c.args.self.now) (sym c.in_default.is) in
+    on_ok_weaker c.push_unmatched.result (λ _. e) c.push_unmatched.ensures.positions
 
 pub returns-in_default-find-clause-marked : goal.returns-in_default-find-clause-marked
 returns-in_default-find-clause-marked g c =
     let t = c.args.self.now in
-    let e = absent_unmarked c.args.marks c.in-Some.key.now t (c.in_default-find.ensures.unmarked ?) ∙ ap (marked_as c.args.marks t) (sym c.in-Some.is) in
-    on_ok_weaker c.push_unmatched.result (λ _. e) c.push_unmatched.ensures.positions
+    let e = absent_unmarked c.args.marks c.in-Some.key.now t (c.in_default-find.ensures.unmarked refl) ∙ ap (marked_as c.args.marks t) (sym c.in-Some.is) in
+    on_ok_weaker c.push_unmatched-in_default-find.result (λ _. e) c.push_unmatched-in_default-find.ensures.positions
 
 pub returns-then-marks-clause-indexes : goal.returns-then-marks-clause-indexes
 returns-then-marks-clause-indexes g c =

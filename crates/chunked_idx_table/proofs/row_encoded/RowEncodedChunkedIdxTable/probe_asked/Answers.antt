@@ -12,8 +12,15 @@ use Rattle.chunked_idx_table.specs.Tables.{ProbeTable}
 use Rattle.chunked_idx_table.specs.Inserts.{searches}
 use Rattle.chunked_idx_table.specs.Probes.{row_matches, matches, marked_more, is_key, asked_rows, keys_at, Answered}
 use Rattle.chunked_idx_table.proofs.Replies.{counted_at, counted_all}
-use Rattle.chunked_idx_table.proofs.Marks.{answered_turn, answered_same, probe_cost_step, row_inside, place_inside, hashed_same, length-seen}
+use Rattle.chunked_idx_table.proofs.Marks.{answered_turn, answered_same, answered_none, probe_cost_step, row_inside, place_inside, hashed_same, length-seen}
 use Rattle.chunked_idx_table.proofs.row_encoded.RowEncodedChunkedIdxTable.probe_asked.Goals as goal
+
+pub loop-i-init : goal.loop-i-init
+loop-i-init g c = record {
+  answered = answered_none c.args.mark_matches c.args.emit_unmatched c.args.self.now (keys_of c.args.hash_keys.now) (map position c.clear.new.self.items) c.clear-2.new.self.items (ap (map position) c.clear.ensures.items) c.clear-2.ensures.items;
+  few = λ p. absurd (omega arith);
+  cost = omega arith;
+}
 
 pub asked_row-row-requires : goal.asked_row-row-requires
 asked_row-row-requires g c = place_inside c.args.subset (keys_of c.args.hash_keys.now) c.loop-i.i (omega (arith, c.number_asked-count.ensures))
