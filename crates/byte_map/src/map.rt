@@ -91,7 +91,7 @@ impl<V: Drop> BytesIndexMap<V> {
 
     /// The index of a key, by one step of search. A key that is absent is appended with this hash and value; a key that is
     /// present keeps its own, and the value given is handed back. Only a key that is absent may be refused, for want of
-    /// memory; its value is handed back, and the map is as it was.
+    /// memory; its value is handed back, and the map is as it was. An absent key must have room below 2^32 keys.
     pub fn find_or_push<L: Ledger>(
         &mut self,
         hash: u64,
@@ -99,7 +99,7 @@ impl<V: Drop> BytesIndexMap<V> {
         value: V,
         steps: &mut Steps<L>,
     ) -> Result<Found<V>, Refused<V>>
-        requires few { length self.old.entries < 2 ^ 32 - 1 }
+        requires few { place key.now self.old.entries ≡ None → length self.old.entries < 2 ^ 32 - 1 }
         requires comes { ComesWith self.old.entries hash key.now }
         ensures ok { IfOk result (Finds self.old.entries self.new.entries hash key.now value) }
         ensures absent { OnErr result (place key.now self.old.entries ≡ None) }

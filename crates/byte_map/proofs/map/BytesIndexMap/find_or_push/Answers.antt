@@ -1,4 +1,5 @@
-use Rattle.std.proofs.Common.{◌≡◌, ◌∙◌, sym, ap, length, None, bytes_eq, refl}
+use Rattle.std.proofs.Common.{◌≡◌, ◌<◌, ◌^◌, ◌∙◌, sym, ap, length, None, bytes_eq, refl, arith}
+use Rattle.std.proofs.lemmas.List.{length-append}
 use Rattle.indexmap.specs.IndexMap.{get_by}
 use Rattle.indexmap.proofs.CallerLemmas.{insert_entry-new}
 use Rattle.byte_map.specs.Entries.{place}
@@ -23,3 +24,14 @@ returns-in-Ok-insert-clause-ok g c =
       c.len-last.ensures.len ∙ sym (length-seen m.entries) ∙ ap (λ m. length m.entries) c.self.view_is,
       seen_pushed m.entries c.insert.new.self.entries c.args.self.now.entries _ c.args.key.now (c.in-Ok-insert.ensures.entries ∙ insert_entry-new _ m c.in-Ok.bytes _ none) (ap (λ m. m.entries) c.self.view_is) c.in-Ok.ensures.items,
     )
+
+pub invariant_of-self : goal.invariant_of-self
+invariant_of-self g c =
+    let m = c.self.inside.kept in
+    let gone = none_of _ c.in_default.ensures.found in
+    let none : get_by (λ q. bytes_eq c.in-Ok.bytes.items q.items) m ≡ None = rw (c.in-Ok.ensures.items) gone in
+    let few = c.requires.few (sym (c.in_default.ensures.index ∙ place_is c.args.key.now m.entries ∙ ap (λ m. place c.args.key.now m.entries) c.self.view_is)) in
+    let made = c.in-Ok-insert.ensures.entries ∙ insert_entry-new _ m c.in-Ok.bytes _ none in
+    let long = simp length-append at (ap length made) in
+    let result : length c.insert.new.self.entries < 2 ^ 32 = omega (arith, few, long, length-seen m.entries, ap (λ m. length m.entries) c.self.view_is) in
+    result
