@@ -174,7 +174,7 @@ fn differ_in_height(columns: &[Series]) -> bool
     columns.iter().any(|column| column.len() != height)
 }
 
-#[tactic(auto, using(crate::proofs::Pointwise::place_by_place))]
+#[tactic(auto, using(list_laws::proofs::Pointwise::place_by_place))]
 fn has_types(fields: &[Field], columns: &[Series]) -> bool
     requires { length columns.now ≡ length fields.now }
     ensures { result ≡ has_types fields.now columns.now }

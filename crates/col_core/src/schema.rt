@@ -133,7 +133,7 @@ fn is_same_field(a: &Field, b: &Field) -> bool
     a.name.as_str() == b.name.as_str() && a.dtype == b.dtype
 }
 
-#[tactic(auto, using(crate::proofs::Pointwise::place_by_place))]
+#[tactic(auto, using(list_laws::proofs::Pointwise::place_by_place))]
 fn are_same_fields(a: &[Field], b: &[Field]) -> bool
     ensures { result ≡ schema_eq a.now b.now }
 {

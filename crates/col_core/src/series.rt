@@ -3,6 +3,7 @@ ghost use Rattle.std.specs.Prelude.{◌≡◌, ◌<◌, ◌≤◌, ◌+◌, ◌^
 ghost use Rattle.std.specs.List.{All, count_by, list_any, range_with_len};
 ghost use Rattle.std.specs.Option.{unwrap_or};
 ghost use Rattle.col_core.specs.declared.series.ColumnError.TheVariants.{Memory};
+ghost use Rattle.col_core.specs.Lent.{lent_leaf};
 ghost use Rattle.col_core.specs.Refusals.{column_refusal};
 ghost use Rattle.col_core.specs.Tables.{Column, leaves_of, chunk_leaves, values_at, taken, AreChunksOf, IsOfKind, is_of_kind};
 ghost use Rattle.col_core.specs.Values.{value_at, Fits, IsText, is_null, is_text};
@@ -10,7 +11,7 @@ ghost use Rattle.col_core.specs.Values.{value_at, Fits, IsText, is_null, is_text
 use crate::IdxSize;
 use crate::chunk::Chunk;
 use crate::data_type::DataType;
-use crate::leaf::Leaf;
+use crate::leaf::{Leaf, LeafRef};
 use crate::text::Name;
 use std::alloc::{AllocError, Global};
 use std::cmp::min;
@@ -151,15 +152,25 @@ impl Series {
         unreachable!()
     }
 
-    /// The value at a place, which fits the type.
+    /// The value at a place, lent. It fits the type.
+    #[inline(always)]
     #[tactic(auto, using(crate::proofs::Leaves::fits))]
+    pub fn leaf_ref(&self, i: usize) -> LeafRef<'_>
+        requires { i < length self.now.values }
+        ensures value { lent_leaf result ≡ value_at self.now.values i }
+        ensures fits { Fits self.now.dtype (lent_leaf result) }
+    {
+        let (chunk, place) = self.chunk_at(i);
+        chunk.leaf_ref(place)
+    }
+
+    /// A copy of the value at a place, which fits the type.
     pub fn leaf(&self, alloc: Global, i: usize) -> Result<Leaf, AllocError>
         requires { i < length self.now.values }
         ensures value { IfOk result (λ v. v ≡ value_at self.now.values i) }
         ensures fits { IfOk result (λ v. Fits self.now.dtype v) }
     {
-        let (chunk, place) = self.chunk_at(i);
-        chunk.leaf(alloc, place)
+        self.leaf_ref(i).to_leaf(alloc)
     }
 
     /// The values at indexes, in the order of the indexes, in one chunk under the same name.
