@@ -11,6 +11,9 @@ use Rattle.col_core.specs.declared.row_place.RowPlace.{RowPlace}
 use Rattle.col_core.specs.Values.{value_at, IsText}
 use Rattle.col_core.specs.Tables.{Row, Table, Column, column_of, header}
 use Rattle.col_core.specs.Places.{IsPlace, IsPlaceIn, IsWithin, placed_value, picked, type_at, no_table}
+use Rattle.col_core.specs.declared.chunk.Chunk.{Chunk}
+use Rattle.col_core.specs.Physical.{physical_of}
+use Rattle.col_core.specs.Tables.{IsOfKind, chunk_physical}
 use Rattle.col_core.proofs.Rows.{map_agree_on}
 
 column_at : (frames : List Table) (column i : ℕ) → i < length frames → get_or (map (λ (f : Table). column_of column f.rows) frames) i [] ≡ column_of column (get_or frames i no_table).rows
@@ -60,4 +63,23 @@ within_schema [] i t h = cc
 within_schema (f ∷ fs) zero t h = omega arith
 within_schema (f ∷ fs) (suc i) t h = let on = within_schema fs i t h in omega arith
 
-pub ruleset placing = (places_within, all_placed, texts_picked, type_of_column, within_schema, All-push)
+-- chunks of columns of one type are kept alike
+pub kind_moved : (t u : DataType) (c : Chunk) → u ≡ t → IsOfKind u c → IsOfKind t c
+kind_moved t u c e h = sym (ap physical_of e) ∙ h
+
+pub same_kind : (t u : DataType) (c d : Chunk) → u ≡ t → IsOfKind u c → IsOfKind t d → chunk_physical c ≡ chunk_physical d
+same_kind t u c d e h k = sym h ∙ ap physical_of e ∙ k
+
+-- what is gathered from the columns of frames
+pub gathered_are : (frames : List Table) (column : ℕ) (places : List (Option RowPlace)) (lists : List (List Leaf)) (values : List Leaf) → All (IsPlaceIn frames) places → lists ≡ map (λ f. column_of column f.rows) frames
+    → values ≡ map (picked lists) places → values ≡ map (placed_value frames column) places
+gathered_are frames column places lists values inside e h = h ∙ ap (λ (ls : List (List Leaf)). map (picked ls) places) e ∙ all_placed frames column places inside
+
+pub gathered_texts : (t : DataType) (frames : List Table) (column : ℕ) (places : List (Option RowPlace)) (lists : List (List Leaf)) (values : List Leaf) → All (IsPlaceIn frames) places → lists ≡ map (λ f. column_of column f.rows) frames
+    → values ≡ map (picked lists) places → All (λ vs. All (IsText t) vs) lists → All (IsText t) values
+gathered_texts t frames column places lists values inside e h texts =
+    subst (All (IsText t)) (sym h) (texts_picked t lists places texts (subst (λ (ls : List (List Leaf)). All (IsWithin ls) places) (sym e) (places_within frames column places inside)))
+
+pub ruleset placing = (places_within, type_of_column, within_schema)
+
+pub ruleset kinds = (kind_moved)

@@ -76,6 +76,7 @@ fn gather_chunk(
 }
 
 /// The chunks of columns where each has one chunk.
+#[tactic(auto, using(crate::proofs::Places::kinds))]
 fn only_chunks<'a>(
     alloc: Global,
     dtype: DataType,
@@ -87,9 +88,9 @@ fn only_chunks<'a>(
 {
     let mut chunks = Vec::with_capacity(alloc, sources.len())?;
     for source in sources {
-        match source.chunks() {
-            [chunk] => chunks.push(chunk)?,
-            _ => return Ok(None),
+        match source.only_chunk() {
+            Some(chunk) => chunks.push(chunk)?,
+            None => return Ok(None),
         }
     }
     Ok(Some(chunks))

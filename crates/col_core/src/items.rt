@@ -10,6 +10,7 @@ ghost use Rattle.col_core.specs.Tables.{values_at};
 ghost use Rattle.col_core.specs.Values.{value_at, item_leaf, number_leaf, is_null, is_text, is_bad_text};
 
 use crate::leaf::LeafRef;
+use crate::text::small_bytes;
 use col_arrays::{BinaryArray, BooleanArray, IdxSize, Native, PrimitiveArray};
 use std::alloc::{AllocError, Global};
 use std::str::from_utf8;
@@ -174,7 +175,7 @@ impl<T: Native> ValueArray for PrimitiveArray<T> {
     }
 }
 
-#[tactic(auto, using(crate::proofs::ItemLeaves::arrays, crate::proofs::Bytes::are_bytes))]
+#[tactic(auto, using(crate::proofs::ItemLeaves::arrays))]
 impl ValueArray for BinaryArray {
     ghost values = { λ items. map (item_leaf (λ b. leaves.Bytes b)) items };
 
@@ -195,7 +196,7 @@ impl ValueArray for BinaryArray {
     #[inline(always)]
     fn lent(&self, i: usize) -> LeafRef<'_> {
         match self.get(i) {
-            Some(b) => LeafRef::Bytes(b),
+            Some(b) => LeafRef::Bytes(small_bytes(b)),
             None => LeafRef::Null,
         }
     }

@@ -120,7 +120,7 @@ impl<'a> LeafRef<'a> {
 }
 
 /// Whether bytes are those of a type.
-#[tactic(auto, using(crate::proofs::Bytes::tests))]
+#[tactic(auto, using(crate::proofs::Bytes::are_bytes))]
 fn are_bytes_of(dtype: DataType, bytes: &[u8]) -> bool
     ensures { IsTrue result ↔ AreBytesOf dtype bytes.now }
 {

@@ -1,5 +1,5 @@
 //! Columns.
-ghost use Rattle.std.specs.Prelude.{◌≡◌, ◌<◌, ◌≤◌, ◌+◌, ◌^◌, not, length, take, drop, IfOk, IfErr, None};
+ghost use Rattle.std.specs.Prelude.{◌≡◌, ◌<◌, ◌≤◌, ◌+◌, ◌^◌, not, length, take, drop, IfOk, IfErr, IfSome, None};
 ghost use Rattle.std.specs.List.{All, count_by, list_any, range_with_len};
 ghost use Rattle.std.specs.Option.{unwrap_or};
 ghost use Rattle.col_core.specs.declared.series.ColumnError.TheVariants.{Memory};
@@ -110,6 +110,18 @@ impl Series {
         &self.chunks
     }
 
+    /// The chunk of a column of one chunk.
+    #[tactic(auto, using(crate::proofs::Leaves::ones))]
+    pub(crate) fn only_chunk(&self) -> Option<&Chunk>
+        ensures kind { IfSome result (λ chunk. IsOfKind self.now.dtype chunk.now) }
+        ensures values { IfSome result (λ chunk. chunk_leaves chunk.now ≡ self.now.values) }
+    {
+        match self.chunks() {
+            [chunk] => Some(chunk),
+            _ => None,
+        }
+    }
+
     /// The number of values, nulls among them.
     pub fn len(&self) -> usize
         ensures { result ≡ length self.now.values }
@@ -184,7 +196,7 @@ impl Series {
         Series::from_chunk(alloc, name, self.dtype(), chunk)
     }
 
-    /// The chunk of the values at indexes. A column of several chunks is joined into one first.
+    /// The chunk of the values at indexes. In a column of several chunks each value is looked up.
     fn taken_chunk(&self, alloc: Global, idxs: &[IdxSize]) -> Result<Chunk, AllocError>
         requires in_bounds { All (λ i. i < length self.now.values) idxs.now }
         ensures values { IfOk result (λ c. chunk_leaves c ≡ values_at self.now.values idxs.now) }
@@ -192,8 +204,51 @@ impl Series {
     {
         match self.chunks() {
             [chunk] => chunk.take(alloc, idxs),
-            _ => self.joined_chunk(alloc, 0, self.len())?.take(alloc, idxs),
+            _ => self.looked_up_chunk(alloc, idxs),
         }
+    }
+
+    /// The chunk of the values at indexes, each looked up among the chunks.
+    #[tactic(auto, using(crate::proofs::Leaves::looks))]
+    fn looked_up_chunk(&self, alloc: Global, idxs: &[IdxSize]) -> Result<Chunk, AllocError>
+        requires in_bounds { All (λ i. i < length self.now.values) idxs.now }
+        ensures values { IfOk result (λ c. chunk_leaves c ≡ values_at self.now.values idxs.now) }
+        ensures kind { IfOk result (IsOfKind self.now.dtype) }
+    {
+        let mut taken = Chunk::new(alloc, self.dtype().physical());
+        for idx in idxs {
+            let (chunk, place) = self.chunk_at(*idx as usize);
+            taken.push_from(chunk, place)?;
+        }
+        Ok(taken)
+    }
+
+    /// An equal column, in one chunk.
+    #[tactic(auto, using(crate::proofs::Leaves::ones))]
+    pub fn try_clone(&self, alloc: Global) -> Result<Series, AllocError>
+        ensures { IfOk result (λ s. s ≡ self.now) }
+    {
+        let chunk = self.whole_chunk(alloc)?;
+        let name = Name::new(alloc, self.name().as_str())?;
+        Series::from_chunk(alloc, name, self.dtype(), chunk)
+    }
+
+    /// The same column in one chunk. A column of one chunk is handed back as it is.
+    pub fn rechunk(self, alloc: Global) -> Result<Series, AllocError>
+        ensures { IfOk result (λ s. s ≡ self) }
+    {
+        match self.chunks() {
+            [_] => Ok(self),
+            _ => self.try_clone(alloc),
+        }
+    }
+
+    /// The chunk of all values.
+    fn whole_chunk(&self, alloc: Global) -> Result<Chunk, AllocError>
+        ensures values { IfOk result (λ c. chunk_leaves c ≡ self.now.values) }
+        ensures kind { IfOk result (IsOfKind self.now.dtype) }
+    {
+        self.joined_chunk(alloc, 0, self.len())
     }
 
     /// The `len` values from `start` on, in one chunk under the same name.

@@ -83,6 +83,16 @@ impl Blob {
         ensures bytes { result.now ≡ self.now }
         ensures small { AreBytes result.now }
     {
-        &self.bytes
+        small_bytes(&self.bytes)
     }
+}
+
+/// The same bytes, which are numbers below 2^8.
+#[inline(always)]
+#[tactic(auto, using(crate::proofs::Bytes::are_bytes))]
+pub(crate) fn small_bytes(bytes: &[u8]) -> &[u8]
+    ensures same { result.now ≡ bytes.now }
+    ensures small { AreBytes result.now }
+{
+    bytes
 }
