@@ -48,7 +48,7 @@ list_within (x ∷ lists) (suc i) j h = let on = list_within lists i j h in omeg
 
 -- texts at places
 text_picked : (t : DataType) (lists : List (List Leaf)) (place : Option RowPlace) → All (λ values. All (IsText t) values) lists → IsWithin lists place → IsText t (picked lists place)
-text_picked t lists None all h = tt
+text_picked t lists None all h = refl
 text_picked t lists (Some p) all h = All-get_or (IsText t) (get_or lists p.frame []) p.row leaves.Null h (all p.frame [] (list_within lists p.frame p.row h))
 
 pub texts_picked : (t : DataType) (lists : List (List Leaf)) (places : List (Option RowPlace)) → All (λ values. All (IsText t) values) lists → All (IsWithin lists) places → All (IsText t) (map (picked lists) places)

@@ -1,5 +1,7 @@
 //! Fields and schemas.
-ghost use Rattle.std.specs.Prelude.{◌≡◌, ◌<◌, [], ◌∷◌, ◌++◌, length, IfOk, IfErr, OnOk, OnErr, slice_get, Some};
+ghost use Rattle.std.specs.List.{All};
+ghost use Rattle.col_core.specs.Tables.{field_at};
+ghost use Rattle.std.specs.Prelude.{◌≡◌, ◌<◌, [], ◌∷◌, ◌++◌, length, map, IfOk, IfErr, OnOk, OnErr, slice_get, Some};
 ghost use Rattle.col_core.specs.Schemas.{field_position, type_named, field_eq, schema_eq};
 
 use crate::data_type::DataType;
@@ -104,6 +106,23 @@ impl Schema {
         ensures { result ≡ schema_eq self.now other.now }
     {
         are_same_fields(&self.fields, &other.fields)
+    }
+
+    /// Some of the fields, by their places.
+    #[tactic(auto, using(crate::proofs::Rows::fields))]
+    pub fn select(&self, alloc: Global, places: &[usize]) -> Result<Schema, AllocError>
+        requires in_bounds { All (λ i. i < length self.now) places.now }
+        ensures { IfOk result (λ s. s ≡ map (field_at self.now) places.now) }
+    {
+        let mut fields = Vec::with_capacity(alloc, places.len())?;
+        for place in places {
+            let field = self.field(*place);
+            fields.push(Field {
+                name: Name::new(alloc, field.name.as_str())?,
+                dtype: field.dtype,
+            })?;
+        }
+        Ok(Schema { fields })
     }
 
     /// An equal schema.
