@@ -1,7 +1,7 @@
 -- Columns as rows.
-use Rattle.std.proofs.Common.{◌≡◌, ℕ, zero, suc, ◌+◌, ◌<◌, ◌≤◌, take, drop, List, [], ◌∷◌, map, length, get_or, slice_get, Some, refl, sym, ap, ◌∙◌, subst, arith, zero-add}
+use Rattle.std.proofs.Common.{◌≡◌, ◌++◌, ℕ, zero, suc, ◌+◌, ◌<◌, ◌≤◌, take, drop, List, [], ◌∷◌, map, length, get_or, slice_get, Some, refl, sym, ap, ◌∙◌, subst, arith, zero-add}
 use Rattle.std.specs.List.{All, range_with_len}
-use Rattle.std.proofs.lemmas.List.{drop_more, length-map, get_or-map}
+use Rattle.std.proofs.lemmas.List.{drop_more, take_more, map-append, length-map, get_or-map}
 use Rattle.std.proofs.lemmas.List.FromFn.{length-map-range_with_len, get_or-map-range_with_len, fill_by_all}
 use Rattle.std.proofs.lemmas.List.Elements.{All-nil, All-cons, All-get_or, All-weaker, All-map}
 use mathlib.Core.List.{map-map}
@@ -114,6 +114,12 @@ pub field_found : (schema : List Field) (i : ℕ) (f : Field) → slice_get sche
 field_found [] i f h = cc
 field_found (x ∷ xs) zero f h = let same : x ≡ f = cc in same
 field_found (x ∷ xs) (suc i) f h = field_found xs i f h
+
+-- a list that is made item by item from another, one item further
+pub mapped_more : {X Y : Type 0} (f : X → Y) (xs : List X) (i : ℕ) (d : X) (done new : List Y) (y : Y) → i < length xs → done ≡ map f (take i xs) → new ≡ done ++ y ∷ [] → f (get_or xs i d) ≡ y → new ≡ map f (take (i + 1) xs)
+mapped_more f xs i d done new y h e n same =
+    n ∙ ap (λ ys. ys ++ y ∷ []) e ∙ ap (λ z. map f (take i xs) ++ z ∷ []) (sym same)
+    ∙ sym (ap (map f) (take_more xs i d h) ∙ map-append f (take i xs) (get_or xs i d ∷ []))
 
 pub ruleset fields = (field_found)
 

@@ -1,9 +1,22 @@
-use Rattle.std.proofs.Common.{◌≡◌, ◌∙◌, ℕ, List, length, map, ap, sym, subst}
-use Rattle.std.proofs.lemmas.List.{take_all}
+use Rattle.std.proofs.Common.{◌≡◌, ◌∙◌, ◌++◌, [], ◌∷◌, ℕ, List, length, map, get_or, ap, sym, subst, rules}
+use Rattle.std.proofs.lemmas.List.{take_all, map-append}
 use Rattle.col_core.specs.declared.schema.Field.{Field}
 use Rattle.col_core.specs.Tables.{Row, Column, AreColumnsOf, header, field_at, column_of, values_of, rows_from}
-use Rattle.col_core.proofs.Rows.{under_selected, rows_selected}
+use Rattle.col_core.proofs.Rows.{field_found, mapped_more, under_selected, rows_selected}
 use Rattle.col_core.proofs.frame.Frame.select.Goals as goal
+
+pub loop-place-preserved : goal.loop-place-preserved
+loop-place-preserved c =
+    let t = c.args.self.now in
+    let places = c.args.places.now in
+    let i = c.loop-place.place-index in
+    let done = c.loop-place.columns.items in
+    let column = c.column.result.now in
+    let pushed : c.push.new.self.items ≡ done ++ column ∷ [] = search rules in
+    record {
+      headers = mapped_more (field_at t.schema) places i 0 (map header done) (map header c.push.new.self.items) (header column) c.loop-place-test.true c.loop-place.invariant.headers (ap (map header) pushed ∙ map-append header done (column ∷ [])) (field_found t.schema (get_or places i 0) (header column) c.column.ensures.header);
+      values = mapped_more (λ (k : ℕ). column_of k t.rows) places i 0 (values_of done) (values_of c.push.new.self.items) column.values c.loop-place-test.true c.loop-place.invariant.values (ap values_of pushed ∙ map-append (λ (x : Column). x.values) done (column ∷ [])) (sym c.column.ensures.values);
+    }
 
 pub from_columns-requires : goal.from_columns-requires
 from_columns-requires c =
