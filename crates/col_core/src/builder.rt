@@ -21,7 +21,7 @@ pub struct ColumnBuilder {
 
 impl Model for ColumnBuilder {
     ghost use Rattle.col_core.specs.Lent.{lent_leaf};
-ghost use Rattle.col_core.specs.Tables.{Growing, chunk_leaves, IsBuilt};
+    ghost use Rattle.col_core.specs.Tables.{Growing, chunk_leaves, IsBuilt};
 
     ghost Value = { Growing };
 
