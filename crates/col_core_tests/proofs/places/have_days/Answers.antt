@@ -8,7 +8,7 @@ use Rattle.col_core_tests.proofs.places.have_days.Goals as goal
 pub loop-frame-preserved : goal.loop-frame-preserved
 loop-frame-preserved c =
     let P : Frame → Type 0 = λ f. type_at f.schema 0 ≡ Some Date in
-    let frame = c.frame-item.result.now in
+    let frame = c.frame-item.result in
     one_more P c.args.frames.now c.loop-frame.frame-index frame c.loop-frame-test.true c.loop-frame.invariant (subst P c.frame-item.is (c.has_days.ensures (search rules)))
 
 pub returns : goal.returns
