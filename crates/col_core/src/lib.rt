@@ -1,4 +1,5 @@
-//! Columns and frames. The bits and arrays that columns are kept in stand in `col_arrays`, and are named here too.
+//! Columns and frames. The bits and arrays that columns are kept in stand in `col_arrays`, and lists in `item_list`; both are
+//! named here too.
 #![tactic(auto)]
 
 mod builder;
@@ -8,7 +9,6 @@ mod frame;
 mod gather;
 mod items;
 mod leaf;
-mod list;
 mod row_place;
 mod schema;
 mod series;
@@ -22,8 +22,8 @@ pub use col_arrays::{
 pub use data_type::{DataType, PhysicalType, TimeUnit, same_type};
 pub use frame::{Frame, FrameError};
 pub use gather::gather_column;
+pub use item_list::List;
 pub use leaf::{Leaf, LeafRef};
-pub use list::List;
 pub use row_place::RowPlace;
 pub use schema::{Field, Schema};
 pub use series::{ColumnError, Series};

@@ -3,8 +3,8 @@ use Rattle.std.specs.Prelude.{ℕ, List, ◌++◌, codes, decimal, Result, Ok, E
 use Rattle.byte_streams.specs.declared.whole.ReadError.{ReadError}
 use Rattle.byte_streams.specs.declared.whole.ReadError.TheVariants as reads
 use Rattle.join_request.specs.declared.error.RequestError.TheVariants as requests
-use Rattle.join_model.specs.declared.error.QueryError.{QueryError}
-use Rattle.join_model.specs.declared.error.QueryError.TheVariants as queries
+use Rattle.join_query.specs.declared.error.QueryError.{QueryError}
+use Rattle.join_query.specs.declared.error.QueryError.TheVariants as queries
 use Rattle.join_command.specs.declared.error.ToolError.{ToolError}
 use Rattle.join_command.specs.declared.error.ToolError.TheVariants.{Usage, ReadFault, TooLong, Request, Query, WriteFault, Memory}
 

@@ -1,4 +1,4 @@
--- A fact of each item of a list, by recursion on the list.
+-- What holds of each item of a list, by recursion over the list.
 use Rattle.std.specs.Prelude.{List, [], ◌∷◌}
 
 abbrev pub Each : {X : Type 0} → (X → Type 0) → List X → Type 0
