@@ -169,16 +169,35 @@ impl BinaryArray {
         self.push(source.stored.get(i), source.validity.get(i))
     }
 
+    /// Appends `len` items of another array from a place on. After `Err` the array is as it was.
+    #[tactic(auto, using(crate::proofs::Items::extends))]
+    pub fn extend_from_range(
+        &mut self,
+        source: &Self,
+        start: usize,
+        len: usize,
+    ) -> Result<(), AllocError>
+        requires { start + len ≤ length source.now }
+        ensures ok { OnOk result (self.new ≡ self.old ++ take len (drop start source.now)) }
+        ensures err { OnErr result (self.new ≡ self.old) }
+    {
+        let before = self.stored.len();
+        let alloc = self.stored.allocator();
+        self.validity
+            .extend_from_range(alloc, &source.validity, start, len)?;
+        let extended = self.stored.extend_from_range(&source.stored, start, len);
+        if extended.is_err() {
+            self.validity.truncate(before);
+        }
+        extended
+    }
+
     /// These items, and after them `len` items of another array from a place on.
     pub fn extended(mut self, source: &Self, start: usize, len: usize) -> Result<Self, AllocError>
         requires { start + len ≤ length source.now }
         ensures { IfOk result (λ all. all ≡ self ++ take len (drop start source.now)) }
     {
-        let _within = source.len();
-        self.stored.reserve(len)?;
-        for i in 0..len {
-            self.push_from(source, start + i)?;
-        }
+        self.extend_from_range(source, start, len)?;
         Ok(self)
     }
 }

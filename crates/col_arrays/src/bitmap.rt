@@ -1,5 +1,5 @@
 //! Bits that are owned.
-ghost use Rattle.std.specs.Prelude.{◌≡◌, ◌<◌, ◌≤◌, ◌-◌, ◌*◌, [], ◌∷◌, ◌++◌, Bool, Some, false, true, length, map, take, not, replicate, slice_get, slice_set, slice_index_or, OnOk, OnErr, IfOk};
+ghost use Rattle.std.specs.Prelude.{◌≡◌, ◌<◌, ◌≤◌, ◌-◌, ◌+◌, ◌*◌, [], ◌∷◌, ◌++◌, Bool, Some, false, true, length, map, take, drop, not, replicate, slice_get, slice_set, slice_index_or, OnOk, OnErr, IfOk};
 ghost use Rattle.std.specs.List.{All, count_by};
 ghost use Rattle.col_arrays.specs.Bits.{bits_of};
 
@@ -145,6 +145,31 @@ impl Bitmap {
             let pushed = self.push(bit);
             if pushed.is_err() {
                 self.truncate(len);
+                return pushed;
+            }
+        }
+        Ok(())
+    }
+
+    /// Appends `len` bits of another bitmap from a place on. After `Err` the bits are as they were.
+    #[tactic(auto, using(crate::proofs::Items::more_bits))]
+    pub(crate) fn extend_from_range(
+        &mut self,
+        source: &Self,
+        start: usize,
+        len: usize,
+    ) -> Result<(), AllocError>
+        requires { start + len ≤ length source.now }
+        ensures ok { OnOk result (self.new ≡ self.old ++ take len (drop start source.now)) }
+        ensures err { OnErr result (self.new ≡ self.old) }
+    {
+        let before = self.len();
+        self.reserve(len)?;
+        let _bits = source.len();
+        for i in 0..len {
+            let pushed = self.push(source.get(start + i));
+            if pushed.is_err() {
+                self.truncate(before);
                 return pushed;
             }
         }
