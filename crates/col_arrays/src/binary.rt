@@ -87,6 +87,7 @@ impl BinaryArray {
     }
 
     /// The number of items, nulls among them.
+    #[inline(always)]
     #[tactic(auto, using(crate::proofs::Items::views))]
     pub fn len(&self) -> usize
         ensures len { result ≡ length self.now }
@@ -104,6 +105,7 @@ impl BinaryArray {
     }
 
     /// The bytes that are stored at a place, under a null too.
+    #[inline(always)]
     #[tactic(auto, using(crate::proofs::Items::finds))]
     pub fn value(&self, i: usize) -> &[u8]
         requires { i < length self.now }
@@ -113,6 +115,7 @@ impl BinaryArray {
     }
 
     /// The bytes at a place, or `None` for a null.
+    #[inline(always)]
     #[tactic(auto, using(crate::proofs::Items::finds))]
     pub fn get(&self, i: usize) -> Option<&[u8]>
         requires { i < length self.now }
@@ -137,6 +140,7 @@ impl BinaryArray {
     }
 
     /// Appends an item. After `Err` the array is as it was.
+    #[inline(always)]
     #[tactic(auto, using(crate::proofs::Items::pushes))]
     pub fn push(&mut self, value: &[u8], present: bool) -> Result<(), AllocError>
         ensures ok { OnOk result (self.new ≡ self.old ++ (value.now, present) ∷ []) }
@@ -152,6 +156,7 @@ impl BinaryArray {
     }
 
     /// Appends a null, under which no bytes are stored. After `Err` the array is as it was.
+    #[inline(always)]
     pub fn push_null(&mut self) -> Result<(), AllocError>
         ensures ok { OnOk result (self.new ≡ self.old ++ ([], false) ∷ []) }
         ensures err { OnErr result (self.new ≡ self.old) }
@@ -160,6 +165,7 @@ impl BinaryArray {
     }
 
     /// Appends the item at a place of another array. After `Err` the array is as it was.
+    #[inline(always)]
     #[tactic(auto, using(crate::proofs::Items::finds))]
     pub fn push_from(&mut self, source: &Self, i: usize) -> Result<(), AllocError>
         requires { i < length source.now }

@@ -49,6 +49,7 @@ impl Bitmap {
     }
 
     /// The number of bits.
+    #[inline(always)]
     #[tactic(auto, using(crate::proofs::BitLists::reads))]
     pub fn len(&self) -> usize
         ensures { result ≡ length self.now }
@@ -57,6 +58,7 @@ impl Bitmap {
     }
 
     /// The bit at a place.
+    #[inline(always)]
     #[tactic(auto, using(crate::proofs::BitLists::reads))]
     pub fn get(&self, i: usize) -> bool
         requires { i < length self.now }
@@ -92,6 +94,7 @@ impl Bitmap {
     }
 
     /// Appends a bit. After `Err` the bits are as they were.
+    #[inline(always)]
     pub(crate) fn push(&mut self, bit: bool) -> Result<(), AllocError>
         ensures ok { OnOk result (self.new ≡ self.old ++ bit ∷ []) }
         ensures err { OnErr result (self.new ≡ self.old) }

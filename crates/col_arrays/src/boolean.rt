@@ -74,6 +74,7 @@ impl BooleanArray {
     }
 
     /// The number of items, nulls among them.
+    #[inline(always)]
     #[tactic(auto, using(crate::proofs::Items::views))]
     pub fn len(&self) -> usize
         ensures { result ≡ length self.now }
@@ -98,6 +99,7 @@ impl BooleanArray {
     }
 
     /// The truth value at a place, or `None` for a null.
+    #[inline(always)]
     #[tactic(auto, using(crate::proofs::Items::finds))]
     pub fn get(&self, i: usize) -> Option<bool>
         requires { i < length self.now }
@@ -122,6 +124,7 @@ impl BooleanArray {
     }
 
     /// Appends an item. After `Err` the array is as it was.
+    #[inline(always)]
     #[tactic(auto, using(crate::proofs::Items::pushes))]
     pub fn push(&mut self, value: bool, present: bool) -> Result<(), AllocError>
         ensures ok { OnOk result (self.new ≡ self.old ++ (value, present) ∷ []) }
@@ -137,6 +140,7 @@ impl BooleanArray {
     }
 
     /// Appends a null, under which false is stored. After `Err` the array is as it was.
+    #[inline(always)]
     pub fn push_null(&mut self) -> Result<(), AllocError>
         ensures ok { OnOk result (self.new ≡ self.old ++ (false, false) ∷ []) }
         ensures err { OnErr result (self.new ≡ self.old) }
@@ -145,6 +149,7 @@ impl BooleanArray {
     }
 
     /// Appends the item at a place of another array. After `Err` the array is as it was.
+    #[inline(always)]
     #[tactic(auto, using(crate::proofs::Items::finds))]
     pub fn push_from(&mut self, source: &Self, i: usize) -> Result<(), AllocError>
         requires { i < length source.now }

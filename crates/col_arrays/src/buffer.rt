@@ -48,6 +48,7 @@ impl BinaryBuffer {
     }
 
     /// The number of items.
+    #[inline(always)]
     #[tactic(auto, using(crate::proofs::Offsets::sizes))]
     pub(crate) fn len(&self) -> usize
         ensures len { result ≡ length self.now }
@@ -58,6 +59,7 @@ impl BinaryBuffer {
     }
 
     /// The item at a place.
+    #[inline(always)]
     pub(crate) fn get(&self, i: usize) -> &[u8]
         requires { i < length self.now }
         ensures { slice_get self.now i ≡ Some result.now }
@@ -80,6 +82,7 @@ impl BinaryBuffer {
     }
 
     /// Appends an item. After `Err` the items are as they were.
+    #[inline(always)]
     #[tactic(auto, using(crate::proofs::Offsets::pushes))]
     pub(crate) fn push(&mut self, item: &[u8]) -> Result<(), AllocError>
         ensures ok { OnOk result (self.new ≡ self.old ++ item.now ∷ []) }
@@ -138,6 +141,7 @@ fn know_bytes(bytes: &[u8])
 {}
 
 /// Makes the first offset stand, for which there is room.
+#[inline(always)]
 fn open_offsets(offsets: &mut Vec<u64>)
     requires room { vec_len offsets.old < vec_capacity offsets.old }
     ensures items { offsets.new.items ≡ opened offsets.old.items }
@@ -163,6 +167,7 @@ fn end_items(offsets: &mut Vec<u64>, ends: &[u64], first: u64, base: u64)
 }
 
 /// Ends an item at an offset, for which there is room.
+#[inline(always)]
 fn end_item(offsets: &mut Vec<u64>, end: u64)
     requires room { vec_len offsets.old + 2 ≤ vec_capacity offsets.old }
     ensures { offsets.new.items ≡ opened offsets.old.items ++ end ∷ [] }

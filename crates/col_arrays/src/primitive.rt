@@ -81,6 +81,7 @@ impl<T: Native> PrimitiveArray<T> {
     }
 
     /// The number of items, nulls among them.
+    #[inline(always)]
     #[tactic(auto, using(crate::proofs::Items::views))]
     pub fn len(&self) -> usize
         ensures len { result ≡ length self.now }
@@ -98,6 +99,7 @@ impl<T: Native> PrimitiveArray<T> {
     }
 
     /// What is stored, under nulls too.
+    #[inline(always)]
     #[tactic(auto, using(crate::proofs::Items::views))]
     pub fn values(&self) -> &[T]
         ensures values { result.now ≡ stored self.now }
@@ -107,6 +109,7 @@ impl<T: Native> PrimitiveArray<T> {
     }
 
     /// The value at a place, or `None` for a null.
+    #[inline(always)]
     #[tactic(auto, using(crate::proofs::Items::finds))]
     pub fn get(&self, i: usize) -> Option<T>
         requires { i < length self.now }
@@ -131,6 +134,7 @@ impl<T: Native> PrimitiveArray<T> {
     }
 
     /// Appends an item. After `Err` the array is as it was.
+    #[inline(always)]
     #[tactic(auto, using(crate::proofs::Items::pushes))]
     pub fn push(&mut self, value: T, present: bool) -> Result<(), AllocError>
         ensures ok { OnOk result (self.new ≡ self.old ++ (value, present) ∷ []) }
@@ -145,6 +149,7 @@ impl<T: Native> PrimitiveArray<T> {
     }
 
     /// Appends the item at a place of another array. After `Err` the array is as it was.
+    #[inline(always)]
     #[tactic(auto, using(crate::proofs::Items::finds))]
     pub fn push_from(&mut self, source: &Self, i: usize) -> Result<(), AllocError>
         requires { i < length source.now }
@@ -184,6 +189,7 @@ impl<T: Native> PrimitiveArray<T> {
     }
 
     /// Appends a null, under which 0 is stored. After `Err` the array is as it was.
+    #[inline(always)]
     pub fn push_null(&mut self) -> Result<(), AllocError>
         ensures ok { OnOk result (self.new ≡ self.old ++ (T.zero, false) ∷ []) }
         ensures err { OnErr result (self.new ≡ self.old) }

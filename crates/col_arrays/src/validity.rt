@@ -45,6 +45,7 @@ impl Validity {
     }
 
     /// Whether the item at a place is present.
+    #[inline(always)]
     pub(crate) fn get(&self, i: usize) -> bool
         requires { i < length self.now }
         ensures { result ≡ slice_index_or self.now i false }
@@ -66,6 +67,7 @@ impl Validity {
     }
 
     /// Appends whether one more item is present. After `Err` nothing has changed.
+    #[inline(always)]
     pub(crate) fn push(&mut self, alloc: Global, present: bool) -> Result<(), AllocError>
         ensures ok { OnOk result (self.new ≡ self.old ++ present ∷ []) }
         ensures err { OnErr result (self.new ≡ self.old) }
