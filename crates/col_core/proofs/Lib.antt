@@ -1,4 +1,5 @@
 pub mod Bytes
+pub mod Ranges
 pub mod ItemLeaves
 pub mod Texts
 pub mod Leaves

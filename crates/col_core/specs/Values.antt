@@ -1,10 +1,10 @@
 -- Values, the items of arrays, and which values a type holds.
-use Rattle.std.specs.Prelude.{◌≡◌, ◌<◌, ◌^◌, ℕ, ℤ, Bool, true, false, not, ◌||◌, cond, List, Option, Some, None, FitsSigned, IsTrue, slice_index_or}
+use Rattle.std.specs.Prelude.{◌≡◌, ℕ, ℤ, Bool, true, false, not, ◌||◌, cond, List, Option, Some, None, FitsSigned, IsTrue, slice_index_or}
 use Rattle.std.specs.Bool.{beq}
 use Rattle.std.specs.Ordering.{int_eq}
-use Rattle.std.specs.Int.{w8, w16, w32, w64, w128, FitsUnsigned}
+use Rattle.std.specs.Int.{w8, w16, w32, w64, w128, FitsUnsignedBits}
 use Rattle.std.specs.Str.{IsUtf8, is_utf8, bytes_eq}
-use Rattle.list_laws.specs.Each.{Each}
+use Rattle.col_arrays.specs.Buffer.{AreBytes}
 use Rattle.col_core.specs.Schemas.{dtype_eq}
 use Rattle.col_core.specs.declared.leaf.Leaf.{Leaf}
 use Rattle.col_core.specs.declared.leaf.Leaf.TheVariants as leaves
@@ -17,10 +17,10 @@ IsWholeOf Int8 z = FitsSigned w8 z
 IsWholeOf Int16 z = FitsSigned w16 z
 IsWholeOf Int32 z = FitsSigned w32 z
 IsWholeOf Int64 z = FitsSigned w64 z
-IsWholeOf UInt8 z = FitsUnsigned w8 z
-IsWholeOf UInt16 z = FitsUnsigned w16 z
-IsWholeOf UInt32 z = FitsUnsigned w32 z
-IsWholeOf UInt64 z = FitsUnsigned w64 z
+IsWholeOf UInt8 z = FitsUnsignedBits 8 z
+IsWholeOf UInt16 z = FitsUnsignedBits 16 z
+IsWholeOf UInt32 z = FitsUnsignedBits 32 z
+IsWholeOf UInt64 z = FitsUnsignedBits 64 z
 IsWholeOf Int128 z = FitsSigned w128 z
 IsWholeOf (Decimal p s) z = FitsSigned w128 z
 IsWholeOf Date z = FitsSigned w32 z
@@ -28,10 +28,6 @@ IsWholeOf Time z = FitsSigned w64 z
 IsWholeOf (Datetime u) z = FitsSigned w64 z
 IsWholeOf (Duration u) z = FitsSigned w64 z
 IsWholeOf _ z = ⊥
-
--- bytes are numbers below 2^8
-abbrev pub AreBytes : List ℕ → Type 0
-AreBytes b = Each (λ n. n < 2 ^ 8) b
 
 -- the bytes of a type
 abbrev pub AreBytesOf : DataType → List ℕ → Type 0

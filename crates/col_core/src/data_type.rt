@@ -103,6 +103,7 @@ impl DataType {
     }
 
     /// Whether a whole number is one of the type's.
+    #[tactic(auto, using(crate::proofs::Ranges::ranges))]
     pub fn holds_whole(self, z: i128) -> bool
         ensures { IsTrue result ↔ IsWholeOf self z }
     {

@@ -124,9 +124,9 @@ impl ValueArray for BooleanArray {
 
 #[tactic(auto, using(crate::proofs::ItemLeaves::arrays))]
 impl<T: Native> ValueArray for PrimitiveArray<T> {
-    ghost values = { λ items. map (number_leaf T.whole) items };
+    ghost values = { λ items. map (number_leaf T.value) items };
 
-    ghost keeps = { IsNumber T.holds };
+    ghost keeps = { IsNumber T.fits };
 
     fn empty(alloc: Global) -> Self {
         PrimitiveArray::new(alloc)

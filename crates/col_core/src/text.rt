@@ -1,6 +1,6 @@
 //! Texts and bytes that contracts see as lists.
 ghost use Rattle.std.specs.Prelude.{◌≡◌, ◌++◌, length, IfOk};
-ghost use Rattle.col_core.specs.Values.{AreBytes};
+ghost use Rattle.col_arrays.specs.Buffer.{AreBytes};
 
 use std::alloc::{AllocError, Global};
 use std::marker::Model;
