@@ -215,3 +215,5 @@ all_kept n k bits h =
 pub ruleset more_present = (replicate-add, range-replicate, all_kept, length-replicate)
 
 pub ruleset more_bits = (extended_more, cut_range)
+
+pub ruleset copies = (replicate_more, append_assoc, cut_range)
