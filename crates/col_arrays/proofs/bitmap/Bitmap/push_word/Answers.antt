@@ -1,4 +1,4 @@
-use Rattle.std.proofs.Common.{◌≡◌, ◌+◌, ◌/◌, ◌%◌, ◌++◌, length, take, ap, ap₂, sym, ◌∙◌, arith, rules}
+use Rattle.std.proofs.Common.{◌≡◌, ◌+◌, ◌/◌, ◌++◌, length, take, ap, ap₂, sym, ◌∙◌, arith, rules}
 use Rattle.std.specs.Int.{w64, to_le_bytes}
 use Rattle.col_arrays.specs.Bits.{bits_of, low_bits}
 use Rattle.col_arrays.proofs.BitLists.{length-bits}

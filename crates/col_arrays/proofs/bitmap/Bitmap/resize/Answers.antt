@@ -1,4 +1,4 @@
-use Rattle.std.proofs.Common.{◌≡◌, ◌-◌, ◌++◌, length, replicate, ap, ◌∙◌, arith, rules, refl}
+use Rattle.std.proofs.Common.{◌≡◌, ◌-◌, ◌++◌, replicate, ap, ◌∙◌, arith, rules}
 use Rattle.col_arrays.proofs.Packed.{joined_copies}
 use Rattle.col_arrays.proofs.bitmap.Bitmap.resize.Goals as goal
 
