@@ -7,56 +7,56 @@ use Rattle.std.proofs.lemmas.Option.{slice_get-get_or, get_or_from_slice_get}
 use Rattle.std.proofs.lemmas.Slice.Zip.{firsts-zip, seconds-zip, get_or-zip}
 use Rattle.col_arrays.specs.Items.{item_of, stored, presence, all_present, nulls}
 
-pub length-items : {T : Type 0} (xs : List T) (marks : List Bool) → length marks ≡ length xs → length (zip xs marks) ≡ length xs
-length-items [] marks h = refl
+pub length-items : {T : Type 0} (xs : List T) (validity : List Bool) → length validity ≡ length xs → length (zip xs validity) ≡ length xs
+length-items [] validity h = refl
 length-items (x ∷ xs) [] h = absurd (omega arith)
-length-items (x ∷ xs) (m ∷ marks) h = ap suc (length-items xs marks (omega arith))
+length-items (x ∷ xs) (m ∷ validity) h = ap suc (length-items xs validity (omega arith))
 
-pub stored-items : {T : Type 0} (xs : List T) (marks : List Bool) → length marks ≡ length xs → stored (zip xs marks) ≡ xs
-stored-items xs marks h = firsts-zip xs marks h
+pub stored-items : {T : Type 0} (xs : List T) (validity : List Bool) → length validity ≡ length xs → stored (zip xs validity) ≡ xs
+stored-items xs validity h = firsts-zip xs validity h
 
-pub presence-items : {T : Type 0} (xs : List T) (marks : List Bool) → length marks ≡ length xs → presence (zip xs marks) ≡ marks
-presence-items xs marks h = seconds-zip xs marks h
+pub presence-items : {T : Type 0} (xs : List T) (validity : List Bool) → length validity ≡ length xs → presence (zip xs validity) ≡ validity
+presence-items xs validity h = seconds-zip xs validity h
 
-pub nulls-items : {T : Type 0} (xs : List T) (marks : List Bool) → length marks ≡ length xs → nulls (zip xs marks) ≡ count_by not marks
-nulls-items xs marks h = ap (count_by not) (seconds-zip xs marks h)
+pub nulls-items : {T : Type 0} (xs : List T) (validity : List Bool) → length validity ≡ length xs → nulls (zip xs validity) ≡ count_by not validity
+nulls-items xs validity h = ap (count_by not) (seconds-zip xs validity h)
 
--- no marks
-pub items-unmarked : {T : Type 0} (xs : List T) (n : ℕ) → n ≡ length xs → zip xs (replicate n true) ≡ all_present xs
-items-unmarked [] zero h = refl
-items-unmarked [] (suc n) h = refl
-items-unmarked (x ∷ xs) zero h = absurd (omega arith)
-items-unmarked (x ∷ xs) (suc n) h = ap (λ rest. (x, true) ∷ rest) (items-unmarked xs n (omega arith))
+-- no validity
+pub items-no_nulls : {T : Type 0} (xs : List T) (n : ℕ) → n ≡ length xs → zip xs (replicate n true) ≡ all_present xs
+items-no_nulls [] zero h = refl
+items-no_nulls [] (suc n) h = refl
+items-no_nulls (x ∷ xs) zero h = absurd (omega arith)
+items-no_nulls (x ∷ xs) (suc n) h = ap (λ rest. (x, true) ∷ rest) (items-no_nulls xs n (omega arith))
 
-pub items-push : {T : Type 0} (xs : List T) (marks : List Bool) (x : T) (mark : Bool) → length marks ≡ length xs → zip (xs ++ x ∷ []) (marks ++ mark ∷ []) ≡ zip xs marks ++ (x, mark) ∷ []
-items-push [] [] x mark h = refl
-items-push [] (m ∷ marks) x mark h = absurd (omega arith)
-items-push (y ∷ xs) [] x mark h = absurd (omega arith)
-items-push (y ∷ xs) (m ∷ marks) x mark h = ap (λ rest. (y, m) ∷ rest) (items-push xs marks x mark (omega arith))
+pub items-push : {T : Type 0} (xs : List T) (validity : List Bool) (x : T) (bit : Bool) → length validity ≡ length xs → zip (xs ++ x ∷ []) (validity ++ bit ∷ []) ≡ zip xs validity ++ (x, bit) ∷ []
+items-push [] [] x bit h = refl
+items-push [] (m ∷ validity) x bit h = absurd (omega arith)
+items-push (y ∷ xs) [] x bit h = absurd (omega arith)
+items-push (y ∷ xs) (m ∷ validity) x bit h = ap (λ rest. (y, m) ∷ rest) (items-push xs validity x bit (omega arith))
 
 -- the item at a place
-pub items_found : {T : Type 0} (xs : List T) (marks : List Bool) (i : ℕ) (x : T) → length marks ≡ length xs → slice_get xs i ≡ Some x → slice_get (zip xs marks) i ≡ Some (x, get_or marks i false)
+pub items_found : {T : Type 0} (xs : List T) (validity : List Bool) (i : ℕ) (x : T) → length validity ≡ length xs → slice_get xs i ≡ Some x → slice_get (zip xs validity) i ≡ Some (x, get_or validity i false)
 items_found [] [] i x h e = cc
-items_found [] (m ∷ marks) i x h e = absurd (omega arith)
+items_found [] (m ∷ validity) i x h e = absurd (omega arith)
 items_found (y ∷ xs) [] i x h e = absurd (omega arith)
-items_found (y ∷ xs) (m ∷ marks) zero x h e = cc
-items_found (y ∷ xs) (m ∷ marks) (suc i) x h e = items_found xs marks i x (omega arith) e
+items_found (y ∷ xs) (m ∷ validity) zero x h e = cc
+items_found (y ∷ xs) (m ∷ validity) (suc i) x h e = items_found xs validity i x (omega arith) e
 
-pub items_at : {T : Type 0} (xs : List T) (marks : List Bool) (i : ℕ) (x : T) → i < length xs → length marks ≡ length xs → x ≡ get_or xs i x → slice_get (zip xs marks) i ≡ Some (x, get_or marks i false)
-items_at [] marks i x l h e = absurd (omega arith)
+pub items_at : {T : Type 0} (xs : List T) (validity : List Bool) (i : ℕ) (x : T) → i < length xs → length validity ≡ length xs → x ≡ get_or xs i x → slice_get (zip xs validity) i ≡ Some (x, get_or validity i false)
+items_at [] validity i x l h e = absurd (omega arith)
 items_at (y ∷ xs) [] i x l h e = absurd (omega arith)
-items_at (y ∷ xs) (m ∷ marks) zero x l h e = ap (λ z. Some (z, m)) (sym e)
-items_at (y ∷ xs) (m ∷ marks) (suc i) x l h e = items_at xs marks i x (omega arith) (omega arith) e
+items_at (y ∷ xs) (m ∷ validity) zero x l h e = ap (λ z. Some (z, m)) (sym e)
+items_at (y ∷ xs) (m ∷ validity) (suc i) x l h e = items_at xs validity i x (omega arith) (omega arith) e
 
--- marks that were appended, and cut off again
-pub cut_push : (marks : List Bool) (mark : Bool) (n : ℕ) → n ≡ length marks → take n (marks ++ mark ∷ []) ≡ marks
-cut_push marks mark n h = take-append-le n marks (mark ∷ []) (omega arith) ∙ take_all n marks (omega arith)
+-- a validity that was appended to, and cut again
+pub cut_push : (validity : List Bool) (bit : Bool) (n : ℕ) → n ≡ length validity → take n (validity ++ bit ∷ []) ≡ validity
+cut_push validity bit n h = take-append-le n validity (bit ∷ []) (omega arith) ∙ take_all n validity (omega arith)
 
--- marks that are all set
-pub present_items : {T : Type 0} (xs : List T) (marks : List Bool) → length marks ≡ length xs → All (λ mark. mark ≡ true) marks → All (λ (item : T × Bool). item.1 ≡ true) (zip xs marks)
-present_items xs marks h all = λ i d l.
-    let within : i < length xs = omega (arith, length-items xs marks h) in
-    ap (λ item. item.1) (get_or-zip xs marks i d within (omega arith)) ∙ all i d.1 (omega arith)
+-- a validity that is set throughout
+pub present_items : {T : Type 0} (xs : List T) (validity : List Bool) → length validity ≡ length xs → All (λ bit. bit ≡ true) validity → All (λ (item : T × Bool). item.1 ≡ true) (zip xs validity)
+present_items xs validity h all = λ i d l.
+    let within : i < length xs = omega (arith, length-items xs validity h) in
+    ap (λ item. item.1) (get_or-zip xs validity i d within (omega arith)) ∙ all i d.1 (omega arith)
 
 -- one more item of those at indexes
 pub taken_more : {X : Type 0} (f : ℕ → Option X) (idxs : List ℕ) (k : ℕ) (done : List X) (x : X) → k < length idxs → map Some done ≡ map f (take k idxs) → f (get_or idxs k 0) ≡ Some x
@@ -65,19 +65,19 @@ taken_more f idxs k done x h so_far next =
     map-append Some done (x ∷ []) ∙ ap₂ (λ front y. front ++ y ∷ []) so_far (sym next)
     ∙ sym (map-append f (take k idxs) (get_or idxs k 0 ∷ [])) ∙ ap (map f) (sym (take_more idxs k 0 h))
 
--- stored values and marks at indexes are the items there
-pub taken_items : {T : Type 0} (xs : List T) (marks : List Bool) (idxs : List ℕ) (ys : List T) (ms : List Bool) → length marks ≡ length xs
-    → map Some ys ≡ map (slice_get xs) idxs → map Some ms ≡ map (slice_get marks) idxs → map Some (zip ys ms) ≡ map (slice_get (zip xs marks)) idxs
-taken_items xs marks [] [] ms h e f = refl
-taken_items xs marks [] (y ∷ ys) ms h e f = cc
-taken_items xs marks (i ∷ idxs) [] ms h e f = cc
-taken_items xs marks (i ∷ idxs) (y ∷ ys) [] h e f = cc
-taken_items xs marks (i ∷ idxs) (y ∷ ys) (m ∷ ms) h e f =
+-- stored values and validity at indexes are the items there
+pub taken_items : {T : Type 0} (xs : List T) (validity : List Bool) (idxs : List ℕ) (ys : List T) (ms : List Bool) → length validity ≡ length xs
+    → map Some ys ≡ map (slice_get xs) idxs → map Some ms ≡ map (slice_get validity) idxs → map Some (zip ys ms) ≡ map (slice_get (zip xs validity)) idxs
+taken_items xs validity [] [] ms h e f = refl
+taken_items xs validity [] (y ∷ ys) ms h e f = cc
+taken_items xs validity (i ∷ idxs) [] ms h e f = cc
+taken_items xs validity (i ∷ idxs) (y ∷ ys) [] h e f = cc
+taken_items xs validity (i ∷ idxs) (y ∷ ys) (m ∷ ms) h e f =
     let value : slice_get xs i ≡ Some y = cc in
     let values : map Some ys ≡ map (slice_get xs) idxs = cc in
-    let mark : slice_get marks i ≡ Some m = cc in
-    let more : map Some ms ≡ map (slice_get marks) idxs = cc in
-    ap₂ (λ item rest. item ∷ rest) (sym (items_found xs marks i y h value ∙ ap (λ z. Some (y, z)) (get_or_from_slice_get marks i m false mark))) (taken_items xs marks idxs ys ms h values more)
+    let bit : slice_get validity i ≡ Some m = cc in
+    let more : map Some ms ≡ map (slice_get validity) idxs = cc in
+    ap₂ (λ item rest. item ∷ rest) (sym (items_found xs validity i y h value ∙ ap (λ z. Some (y, z)) (get_or_from_slice_get validity i m false bit))) (taken_items xs validity idxs ys ms h values more)
 
 -- what holds of all values holds of those at indexes
 found_holds : {T : Type 0} (P : T → Type 0) (xs : List T) (i : ℕ) (y : T) → All P xs → slice_get xs i ≡ Some y → P y
@@ -101,35 +101,35 @@ pub replicate_more : (b : Bool) (k : ℕ) → replicate (k + 1) b ≡ replicate 
 replicate_more b zero = refl
 replicate_more b (suc k) = let more : suc k + 1 ≡ suc (k + 1) = omega arith in ap (λ n. replicate n b) more ∙ ap (λ rest. b ∷ rest) (replicate_more b k)
 
--- the marks that are lent, if any
-pub lent_bits : {T : Type 0} (xs : List T) (marks : List Bool) (lent : Option (Bor (List Bool))) → length marks ≡ length xs
-    → MatchOption lent (All (λ mark. mark ≡ true) marks) (λ m. m.now ≡ marks) → MatchOption lent (All (λ (item : T × Bool). item.1 ≡ true) (zip xs marks)) (λ m. m.now ≡ presence (zip xs marks))
-lent_bits xs marks None h all = present_items xs marks h all
-lent_bits xs marks (Some m) h same = same ∙ sym (presence-items xs marks h)
+-- the validity that is lent, if any
+pub lent_bits : {T : Type 0} (xs : List T) (validity : List Bool) (lent : Option (Bor (List Bool))) → length validity ≡ length xs
+    → MatchOption lent (All (λ bit. bit ≡ true) validity) (λ m. m.now ≡ validity) → MatchOption lent (All (λ (item : T × Bool). item.1 ≡ true) (zip xs validity)) (λ m. m.now ≡ presence (zip xs validity))
+lent_bits xs validity None h all = present_items xs validity h all
+lent_bits xs validity (Some m) h same = same ∙ sym (presence-items xs validity h)
 
--- indexes within the items are within what is stored, and within the marks
-pub within_parts : {T : Type 0} (xs : List T) (marks : List Bool) (items : List (T × Bool)) (idxs : List ℕ) (n : ℕ) → length marks ≡ length xs → zip xs marks ≡ items → n ≡ length xs → All (λ i. i < length items) idxs → All (λ i. i < n) idxs
-within_parts xs marks items idxs n h e long within = λ k d l. omega (arith, length-items xs marks h, ap length e, within k d l)
+-- indexes within the items are within what is stored, and within the validity
+pub within_parts : {T : Type 0} (xs : List T) (validity : List Bool) (items : List (T × Bool)) (idxs : List ℕ) (n : ℕ) → length validity ≡ length xs → zip xs validity ≡ items → n ≡ length xs → All (λ i. i < length items) idxs → All (λ i. i < n) idxs
+within_parts xs validity items idxs n h e long within = λ k d l. omega (arith, length-items xs validity h, ap length e, within k d l)
 
 -- one more item of another array
-pub pushed_from : {T A E : Type 0} (r : Result A E) (xs : List T) (marks : List Bool) (items : List (T × Bool)) (old new : List (T × Bool)) (i : ℕ) (x : T) (mark : Bool)
-    → length marks ≡ length xs → zip xs marks ≡ items → slice_get xs i ≡ Some x → mark ≡ get_or marks i false
-    → OnOk r (new ≡ old ++ (x, mark) ∷ []) → OnOk r ((d : T × Bool) → new ≡ old ++ get_or items i d ∷ [])
-pushed_from (Err e) xs marks items old new i x mark h view value present done = done
-pushed_from {T = T} (Ok a) xs marks items old new i x mark h view value present done = λ d.
-    let found : slice_get items i ≡ Some (x, mark) = ap (λ all. slice_get all i) (sym view) ∙ items_found xs marks i x h value ∙ ap (λ m. Some (x, m)) (sym present) in
-    done ∙ ap (λ item. old ++ item ∷ []) (sym (get_or_from_slice_get items i (x, mark) d found))
+pub pushed_from : {T A E : Type 0} (r : Result A E) (xs : List T) (validity : List Bool) (items : List (T × Bool)) (old new : List (T × Bool)) (i : ℕ) (x : T) (bit : Bool)
+    → length validity ≡ length xs → zip xs validity ≡ items → slice_get xs i ≡ Some x → bit ≡ get_or validity i false
+    → OnOk r (new ≡ old ++ (x, bit) ∷ []) → OnOk r ((d : T × Bool) → new ≡ old ++ get_or items i d ∷ [])
+pushed_from (Err e) xs validity items old new i x bit h view value present done = done
+pushed_from {T = T} (Ok a) xs validity items old new i x bit h view value present done = λ d.
+    let found : slice_get items i ≡ Some (x, bit) = ap (λ all. slice_get all i) (sym view) ∙ items_found xs validity i x h value ∙ ap (λ m. Some (x, m)) (sym present) in
+    done ∙ ap (λ item. old ++ item ∷ []) (sym (get_or_from_slice_get items i (x, bit) d found))
 
 -- a place among the items is a place among what is stored
-pub place_within : {T : Type 0} (xs : List T) (marks : List Bool) (items : List (T × Bool)) (i : ℕ) → length marks ≡ length xs → zip xs marks ≡ items → i < length items → i < length xs
-place_within xs marks items i h e l = omega (arith, length-items xs marks h, ap length e)
+pub place_within : {T : Type 0} (xs : List T) (validity : List Bool) (items : List (T × Bool)) (i : ℕ) → length validity ≡ length xs → zip xs validity ≡ items → i < length items → i < length xs
+place_within xs validity items i h e l = omega (arith, length-items xs validity h, ap length e)
 
 -- a present item as a value, and a null as none
-pub value_at : {T : Type 0} (xs : List T) (marks : List Bool) (items : List (T × Bool)) (i : ℕ) (x : T) (mark : Bool) → length marks ≡ length xs → zip xs marks ≡ items → slice_get xs i ≡ Some x → get_or marks i false ≡ mark
-    → item_of (x, mark) ≡ option_and_then item_of (slice_get items i)
-value_at xs marks items i x mark h view value e = sym (ap (λ all. option_and_then item_of (slice_get all i)) (sym view) ∙ ap (option_and_then item_of) (items_found xs marks i x h value) ∙ ap (λ m. item_of (x, m)) e)
+pub value_at : {T : Type 0} (xs : List T) (validity : List Bool) (items : List (T × Bool)) (i : ℕ) (x : T) (bit : Bool) → length validity ≡ length xs → zip xs validity ≡ items → slice_get xs i ≡ Some x → get_or validity i false ≡ bit
+    → item_of (x, bit) ≡ option_and_then item_of (slice_get items i)
+value_at xs validity items i x bit h view value e = sym (ap (λ all. option_and_then item_of (slice_get all i)) (sym view) ∙ ap (option_and_then item_of) (items_found xs validity i x h value) ∙ ap (λ m. item_of (x, m)) e)
 
-pub ruleset views = (length-items, stored-items, presence-items, nulls-items, items-unmarked)
+pub ruleset views = (length-items, stored-items, presence-items, nulls-items, items-no_nulls)
 
 pub ruleset finds = (length-items, stored-items, items_found, items_at)
 
@@ -215,3 +215,5 @@ all_kept n k bits h =
 pub ruleset more_present = (replicate-add, range-replicate, all_kept, length-replicate)
 
 pub ruleset more_bits = (extended_more, cut_range)
+
+pub ruleset copies = (replicate_more, append_assoc, cut_range)

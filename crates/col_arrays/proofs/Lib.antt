@@ -1,4 +1,5 @@
 pub mod BitLists
+pub mod Packed
 pub mod Writes
 pub mod Words
 pub mod Items

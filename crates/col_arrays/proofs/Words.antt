@@ -58,7 +58,7 @@ digit_is zero b h e = rw e refl
 digit_is (suc zero) b h e = rw e refl
 digit_is (suc (suc d)) b h e = absurd (omega arith)
 
-digit_mod : (n c k : ℕ) → k < c → digit (n % 2 ^ c) k ≡ digit n k
+pub digit_mod : (n c k : ℕ) → k < c → digit (n % 2 ^ c) k ≡ digit n k
 digit_mod n c k h = sym (bit_at_cat_low (n / 2 ^ c) c (n % 2 ^ c) k h) ∙ ap (λ m. digit m k) (shr_split n c)
 
 missing : (bits : List Bool) (q : ℕ) → length bits ≤ q → ◌≡◌ {A = Bool} (get_or bits q false) false

@@ -13,3 +13,7 @@ bits_from bytes offset n = map (bit_at bytes) (range_with_len offset n)
 -- the first n bits
 abbrev pub bits_of : List ℕ → ℕ → List Bool
 bits_of bytes n = bits_from bytes 0 n
+
+-- the n lowest bits of a word
+abbrev pub low_bits : ℕ → ℕ → List Bool
+low_bits word n = map (λ i. word / 2 ^ i % 2 == 1) (range_with_len 0 n)

@@ -1,13 +1,25 @@
-use Rattle.std.proofs.Common.{◌≡◌, ◌<◌, Some, slice_get, get_or, length, ap, sym, ◌∙◌, false}
-use Rattle.std.proofs.lemmas.Option.{slice_get-get_or}
-use Rattle.col_arrays.proofs.Items.{taken_more}
+use Rattle.std.proofs.Common.{◌≡◌, ℕ, Bool, ◌+◌, ◌-◌, ◌*◌, ◌++◌, Some, min, map, length, take, drop, get_or, false, ap, ap₂, ◌∙◌, arith}
+use Rattle.std.specs.Simd.Lanes.{mask_l}
+use Rattle.std.proofs.lemmas.List.{take_all}
+use Rattle.col_arrays.specs.Bits.{low_bits}
+use Rattle.col_arrays.proofs.Packed.{chunk_word, gathered_all}
 use Rattle.col_arrays.proofs.bitmap.Bitmap.take.Goals as goal
 
-pub loop-idx-preserved : goal.loop-idx-preserved
-loop-idx-preserved c =
-    let bits = c.args.self.now in
-    let k = c.loop-idx.idx-index in
-    let i = get_or c.args.idxs.now k 0 in
-    let within : i < length bits = c.requires k 0 c.loop-idx-test.true in
-    let there : slice_get bits i ≡ Some c.get.result = slice_get-get_or bits i false within ∙ ap Some (sym c.get.ensures) in
-    rw c.in_ok-push.ensures.ok (taken_more (slice_get bits) c.args.idxs.now k c.loop-idx.taken c.get.result c.loop-idx-test.true c.loop-idx.invariant there)
+pub loop-k-preserved : goal.loop-k-preserved
+loop-k-preserved c =
+    let f : ℕ → Bool = λ i. get_or c.args.self.now i false in
+    let idxs = c.args.idxs.now in
+    let n = c.min-n.result in
+    let least : n ≡ min 64 (length idxs - 64 * c.loop-k.k) = grind (arith, c.min-n.ensures) in
+    let at = 64 * c.loop-k.k in
+    let few : at + n - at ≡ n = omega arith in
+    let gathered : c.gather.result ≡ mask_l (map f (take n (drop at idxs))) = c.gather.ensures ∙ ap (λ m. mask_l (map f (take m (drop at idxs)))) few in
+    c.in_ok-push_word.ensures.ok ∙ ap₂ (λ old w. old ++ low_bits w n) c.loop-k.invariant gathered
+    ∙ chunk_word f idxs c.loop-k.k n least
+
+pub returns : goal.returns
+returns c =
+    let f : ℕ → Bool = λ i. get_or c.args.self.now i false in
+    let idxs = c.args.idxs.now in
+    ap (map Some) (c.loop-k.invariant ∙ ap (map f) (take_all (64 * c.loop-k.k) idxs (omega (arith, c.loop-k-test.false, c.div_ceil-k-end.ensures))))
+    ∙ gathered_all c.args.self.now idxs c.requires

@@ -1,5 +1,5 @@
-use Rattle.std.proofs.Common.{◌≡◌, map, take, Some, slice_get}
+use Rattle.std.proofs.Common.{◌≡◌, ◌*◌, map, take, get_or, false}
 use Rattle.col_arrays.proofs.bitmap.Bitmap.take.Given as goal
 
-abbrev pub invariant-loop-idx : goal.invariant-loop-idx
-invariant-loop-idx l = map Some l.taken ≡ map (slice_get l.self) (take l.idx-index l.idxs)
+abbrev pub invariant-loop-k : goal.invariant-loop-k
+invariant-loop-k l = l.taken ≡ map (λ i. get_or l.self i false) (take (64 * l.k) l.idxs)

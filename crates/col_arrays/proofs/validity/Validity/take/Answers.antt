@@ -9,4 +9,4 @@ returns-in-None c =
     let len = c.self.inside.len in
     let all : replicate len true ≡ c.args.self.now = sym (ap (validity_of len) c.in-None.is) ∙ c.self.view_is in
     let long : length c.args.self.now ≡ len = ap length (sym all) ∙ length-replicate len true in
-    taken_present len c.args.idxs.now (λ k d l. omega (arith, c.requires k d l)) ∙ ap (λ marks. map (slice_get marks) c.args.idxs.now) all
+    taken_present len c.args.idxs.now (λ k d l. omega (arith, c.requires k d l)) ∙ ap (λ validity. map (slice_get validity) c.args.idxs.now) all
