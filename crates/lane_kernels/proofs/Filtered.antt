@@ -1,5 +1,6 @@
 -- Items whose mask bit is set.
 use Rattle.std.proofs.Common.{◌≡◌, ℕ, zero, suc, ◌+◌, ◌*◌, ◌^◌, ◌<◌, ◌≤◌, Bool, true, false, cond, List, [], ◌∷◌, ◌++◌, length, take, drop, get_or, refl, sym, ap, ap₂, ◌∙◌, arith, add-one}
+use Rattle.std.proofs.Math.Nat.{pow-suc}
 use Rattle.std.specs.List.{count_by}
 use Rattle.std.specs.Simd.Lanes.{mask_l}
 use Rattle.std.proofs.lemmas.List.{append_assoc}
@@ -58,3 +59,16 @@ word-push [] true = refl
 word-push [] false = refl
 word-push (c ∷ bits) true = omega (arith, word-push bits true, pow-suc 2 (length bits))
 word-push (c ∷ bits) false = omega (arith, word-push bits false)
+
+-- a step that keeps an item
+pub kept_step : {A : Type 0} (xs : List A) (mask : List Bool) (old so_far new : List A) (i : ℕ) (d x : A) → length mask ≡ length xs → i < length xs
+    → so_far ≡ old ++ filtered (take i xs) (take i mask) → x ≡ get_or xs i d → get_or mask i false ≡ true → new ≡ so_far ++ x ∷ [] → new ≡ old ++ filtered (take (i + 1) xs) (take (i + 1) mask)
+kept_step xs mask old so_far new i d x long within before here set pushed =
+    let front = filtered (take i xs) (take i mask) in
+    pushed ∙ ap (λ all. all ++ x ∷ []) before ∙ append_assoc {xs = old} {ys = front} {zs = x ∷ []}
+    ∙ ap (λ rest. old ++ rest) (ap (λ y. front ++ y ∷ []) here ∙ sym (filtered_more_yes xs mask i d within (omega arith) set))
+
+-- a step that drops an item
+pub dropped_step : {A : Type 0} (xs : List A) (mask : List Bool) (old so_far : List A) (i : ℕ) → length mask ≡ length xs → i < length xs
+    → so_far ≡ old ++ filtered (take i xs) (take i mask) → get_or mask i false ≡ false → so_far ≡ old ++ filtered (take (i + 1) xs) (take (i + 1) mask)
+dropped_step xs mask old so_far i long within before unset = before ∙ ap (λ rest. old ++ rest) (sym (filtered_more_no xs mask i within (omega arith) unset))

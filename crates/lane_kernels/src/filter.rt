@@ -13,7 +13,7 @@ pub fn pext64_polyfill(word: u64, mask: u64, count: u32) -> u64
 {
     let mut out = 0;
     let mut kept = 0;
-    let mut i = 0;
+    let mut i = 0u32;
     while kept < count {
         if mask >> i & 1 == 1 {
             out |= (word >> i & 1) << kept;

@@ -2,9 +2,16 @@
 //! Each answers position by position.
 #![tactic(auto)]
 
+mod comparisons;
 mod filter;
+mod if_then_else;
+mod min_max;
+mod order;
 
+pub use comparisons::{TotalEqKernel, TotalOrdKernel};
 pub use filter::{
     filter_boolean_kernel, filter_u8_avx512vbmi2, filter_u16_avx512vbmi2, filter_u32_avx512f,
     filter_u64_avx512f, pext64_polyfill,
 };
+pub use if_then_else::IfThenElseKernel;
+pub use min_max::MinMaxKernel;
