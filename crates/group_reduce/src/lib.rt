@@ -1,0 +1,13 @@
+//! Reductions of groups: what they are, and the two representations that are generic in how a state is kept.
+#![tactic(auto)]
+
+mod entering;
+mod grouped;
+mod reducer;
+mod vectors;
+mod wrapped;
+
+pub use grouped::{GroupedReduction, Stated};
+pub use reducer::Reducer;
+pub use vectors::VecGroupedReduction;
+pub use wrapped::parts_in;
