@@ -86,10 +86,7 @@ fn keys_in_order(rt: HostRuntime) -> Result<(), AllocError> {
     Ok(())
 }
 
-fn fill<L: Ledger>(
-    alloc: Global,
-    steps: &mut Steps<L>,
-) -> Result<BytesIndexMap<u32>, AllocError>
+fn fill<L: Ledger>(alloc: Global, steps: &mut Steps<L>) -> Result<BytesIndexMap<u32>, AllocError>
     ensures { IfOk result (λ m. HaveHash m.entries) }
 {
     let mut map = BytesIndexMap::new(alloc)?;
