@@ -6,4 +6,6 @@ mod arrays;
 #[cfg(test)]
 mod bits;
 #[cfg(test)]
+mod numbers;
+#[cfg(test)]
 mod ranges;

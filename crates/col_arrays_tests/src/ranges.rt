@@ -41,7 +41,7 @@ fn expect_numbers(
     let mut all = numbers(alloc, 3)?;
     assert!(rt; start <= source.len() && len <= source.len() - start);
     all.extend_from_range(&source, start, len)?;
-    assert!(rt; all.len() == len.saturating_add(3));
+    assert!(rt; all.len() >= 3 && all.len() - 3 == len);
     for i in 0..len {
         assert!(rt;
             all.get(i + 3) == source.get(start + i),
@@ -59,73 +59,32 @@ fn number_ranges(rt: HostRuntime) -> Result<(), AllocError> {
     Ok(())
 }
 
-// Every third true, the first and the last null.
-fn truths(alloc: Global, n: usize) -> Result<BooleanArray, AllocError> {
-    let mut items = BooleanArray::new(alloc);
-    for i in 0..n {
-        items.push(i % 3 == 0, is_present(i, n))?;
-    }
-    Ok(items)
-}
-
-fn expect_truths(
-    rt: &impl Abort,
-    alloc: Global,
-    n: usize,
-    start: usize,
-    len: usize,
-) -> Result<(), AllocError> {
-    let source = truths(alloc, n)?;
-    let mut all = truths(alloc, 3)?;
-    assert!(rt; start <= source.len() && len <= source.len() - start);
-    all.extend_from_range(&source, start, len)?;
-    assert!(rt; all.len() == len.saturating_add(3));
-    for i in 0..len {
-        assert!(rt; all.get(i + 3) == source.get(start + i), "truth {i} of {n}");
-    }
-    Ok(())
-}
-
 #[test]
 fn truth_ranges(rt: HostRuntime) -> Result<(), AllocError> {
-    for (n, start, len) in RANGES {
-        expect_truths(&rt, rt.alloc(), n, start, len)?;
-    }
-    Ok(())
-}
-
-// Texts of no byte, one and two bytes in turn, the first and the last null.
-fn texts(alloc: Global, n: usize) -> Result<BinaryArray, AllocError> {
-    let mut items = BinaryArray::new(alloc);
-    for i in 0..n {
-        let byte = (i & 0x7f) as u8;
-        items.push(&[byte, byte][..i % 3], is_present(i, n))?;
-    }
-    Ok(items)
-}
-
-fn expect_texts(
-    rt: &impl Abort,
-    alloc: Global,
-    n: usize,
-    start: usize,
-    len: usize,
-) -> Result<(), AllocError> {
-    let source = texts(alloc, n)?;
-    let mut all = texts(alloc, 3)?;
-    assert!(rt; start <= source.len() && len <= source.len() - start);
-    all.extend_from_range(&source, start, len)?;
-    assert!(rt; all.len() == len.saturating_add(3));
-    for i in 0..len {
-        assert!(rt; all.get(i + 3) == source.get(start + i), "text {i} of {n}");
-    }
+    let mut source = BooleanArray::new(rt.alloc());
+    source.push(true, true)?;
+    source.push_null()?;
+    source.push(true, true)?;
+    let mut all = BooleanArray::new(rt.alloc());
+    all.push(false, true)?;
+    all.extend_from_range(&source, 1, 2)?;
+    assert!(rt; all.len() == 3);
+    assert!(rt; all.get(1).is_none());
+    assert_eq!(rt; all.get(2), Some(true));
     Ok(())
 }
 
 #[test]
 fn text_ranges(rt: HostRuntime) -> Result<(), AllocError> {
-    for (n, start, len) in RANGES {
-        expect_texts(&rt, rt.alloc(), n, start, len)?;
-    }
+    let mut source = BinaryArray::new(rt.alloc());
+    source.push(b"ab", true)?;
+    source.push_null()?;
+    source.push(b"c", true)?;
+    let mut all = BinaryArray::new(rt.alloc());
+    all.push(b"x", true)?;
+    all.extend_from_range(&source, 1, 2)?;
+    assert!(rt; all.len() == 3);
+    assert!(rt; all.get(1).is_none());
+    assert_eq!(rt; all.get(2), Some(b"c".as_slice()));
     Ok(())
 }
