@@ -6,7 +6,8 @@ use crate::map::Kept;
 use indexmap::map::Iter;
 use std::marker::Model;
 
-/// The hash and the bytes of each key that is left, in order. It ends after as many items as are left.
+/// The hash and the bytes of each key that is left, in order. It ends after as many items as are
+/// left.
 #[derive(Drop)]
 pub struct HashKeysIter<'a, V: Drop> {
     entries: Iter<'a, Vec<u8>, Kept<V>>,

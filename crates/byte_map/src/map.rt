@@ -1,6 +1,8 @@
 //! The map: each key with a hash and a value.
-ghost use Rattle.std.specs.Prelude.{◌≡◌, ◌+◌, ◌-◌, ◌<◌, ◌^◌, [], length, Some, None, IfOk, IfErr, OnErr, slice_get};
-ghost use Rattle.byte_map.specs.Entries.{keys_of, hashes_of, values_of, hash_keys_of, place, AreDistinct, ComesWith};
+ghost use Rattle.std.specs.Prelude.{◌≡◌, ◌+◌, ◌-◌, ◌<◌, ◌^◌, [], length, slice_get};
+ghost use Rattle.std.specs.Prelude.{Some, None, IfOk, IfErr, OnErr};
+ghost use Rattle.byte_map.specs.Entries.{keys_of, hashes_of, values_of, hash_keys_of, place};
+ghost use Rattle.byte_map.specs.Entries.{AreDistinct, ComesWith};
 ghost use Rattle.byte_map.specs.Finds.{Finds};
 
 use crate::iter::HashKeysIter;
@@ -10,9 +12,9 @@ use std::marker::Model;
 use std::sync::ledger::Ledger;
 use step_count::Steps;
 
-/// Keys of bytes in the order in which they came, each with the hash that it came with and a value. Contracts see the
-/// list of these entries, in which no key stands twice. The hash only serves the search: a key that is present is to
-/// come with the hash that was kept with it.
+/// Keys of bytes in the order in which they came, each with the hash that it came with and a value.
+/// Contracts see the list of these entries, in which no key stands twice. The hash only serves the
+/// search: a key that is present is to come with the hash that was kept with it.
 #[derive(Drop)]
 pub struct BytesIndexMap<V: Drop> {
     alloc: Global,
@@ -32,12 +34,16 @@ impl<V: Drop> Model for BytesIndexMap<V> {
 
     ghost Value = { Map V };
 
-    ghost view = { λ m. record { entries = map (λ e. record { hash = e.1.hash; key = e.0.items; value = e.1.value }) m.kept.entries } };
+    ghost view = { λ m. record {
+      entries = map (λ e. record { hash = e.1.hash; key = e.0.items; value = e.1.value })
+          m.kept.entries;
+    } };
 
     ghost invariant = { λ m. length m.kept.entries < 2 ^ 32 };
 }
 
-/// The answer of `find_or_push`: the index of a key that was present, with the value handed back, or that of a new key.
+/// The answer of `find_or_push`: the index of a key that was present, with the value handed back,
+/// or that of a new key.
 #[derive(Drop)]
 pub enum Found<V: Drop> {
     Old(u32, V),
@@ -89,9 +95,10 @@ impl<V: Drop> BytesIndexMap<V> {
         }
     }
 
-    /// The index of a key, by one step of search. A key that is absent is appended with this hash and value; a key that is
-    /// present keeps its own, and the value given is handed back. Only a key that is absent may be refused, for want of
-    /// memory; its value is handed back, and the map is as it was. An absent key must have room below 2^32 keys.
+    /// The index of a key, by one step of search. A key that is absent is appended with this hash
+    /// and value; a key that is present keeps its own, and the value given is handed back. Only a
+    /// key that is absent may be refused, for want of memory; its value is handed back, and the map
+    /// is as it was. An absent key must have room below 2^32 keys.
     pub fn find_or_push<L: Ledger>(
         &mut self,
         hash: u64,
@@ -99,7 +106,8 @@ impl<V: Drop> BytesIndexMap<V> {
         value: V,
         steps: &mut Steps<L>,
     ) -> Result<Found<V>, Refused<V>>
-        requires few { place key.now self.old.entries ≡ None → length self.old.entries < 2 ^ 32 - 1 }
+        requires few { place key.now self.old.entries ≡ None → length self.old.entries
+            < 2 ^ 32 - 1 }
         requires comes { ComesWith self.old.entries hash key.now }
         ensures ok { IfOk result (Finds self.old.entries self.new.entries hash key.now value) }
         ensures absent { OnErr result (place key.now self.old.entries ≡ None) }

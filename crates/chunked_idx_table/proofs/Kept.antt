@@ -33,8 +33,8 @@ unfolding position_of
 low_word w x is small = elim (cases_Bool (w == 2 ^ 64 - 1)) [
   | inl same ↦ absurd (no_position x (rw same at is))
   | inr apart ↦
-    let here : w / 2 ^ 32 ≡ x.row = ap (λ (p : Position). p.row) (some_same (rw apart at is)) in
-    omega (arith, here, small)
+      let here : w / 2 ^ 32 ≡ x.row = ap (λ (p : Position). p.row) (some_same (rw apart at is)) in
+      omega (arith, here, small)
 ]
 
 pub kept_as : (w : ℕ) (x : Position) → position_of w ≡ Some x → w < 2 ^ 63 → position_kept w ≡ x

@@ -66,15 +66,16 @@ none_each keys key none j l = elim (cases_Bool (bytes_eq key (get_or keys j []))
   where
     some_none : (i : ℕ) → Some i ≡ None → ⊥
     some_none i e = cc
+
     there : bytes_eq key (get_or keys j []) ≡ true → ⊥
     there same =
-      let n = position_or_len (bytes_eq key) keys in
-      elim (cases_lt n (length keys)) [
-        | inl less ↦ some_none n (sym (ap (λ (b : Bool). cond b (Some n) None) (lt-ltb n (length keys) less)) ∙ none)
-        | inr all ↦
-          let passes : not (bytes_eq key (get_or keys j [])) ≡ true = prefix_len_passes (λ x. not (bytes_eq key x)) keys j [] (omega arith) in
-          false≢true (sym (ap not same) ∙ passes)
-      ]
+        let n = position_or_len (bytes_eq key) keys in
+        elim (cases_lt n (length keys)) [
+          | inl less ↦ some_none n (sym (ap (λ (b : Bool). cond b (Some n) None) (lt-ltb n (length keys) less)) ∙ none)
+          | inr all ↦
+              let passes : not (bytes_eq key (get_or keys j [])) ≡ true = prefix_len_passes (λ x. not (bytes_eq key x)) keys j [] (omega arith) in
+              false≢true (sym (ap not same) ∙ passes)
+        ]
 
 or_none : (b : Bool) → (b || false) ≡ b
 or_none true = refl

@@ -22,8 +22,8 @@ pub few_answers : {Q A : Type 0} (f : Q → List A) (limit : ℕ) (qs : List Q) 
 few_answers f limit [] p = omega arith
 few_answers f limit (q ∷ qs) p = elim (cases_lt (length (f q)) limit) [
   | inl less ↦
-    let rest = few_answers f (limit - length (f q)) qs (omega arith) in
-    rw (lt-leb limit (length (f q)) less) (omega (arith, rest, length-append (f q) (replied f (limit - length (f q)) qs)))
+      let rest = few_answers f (limit - length (f q)) qs (omega arith) in
+      rw (lt-leb limit (length (f q)) less) (omega (arith, rest, length-append (f q) (replied f (limit - length (f q)) qs)))
   | inr enough ↦ rw (le-leb limit (length (f q)) enough) (omega (arith, length-append (f q) []))
 ]
 

@@ -160,7 +160,7 @@ item_null ids t i id kept seen h at =
     let m : i < length t.nulls = omega (arith, h, long) in
     let x : get_or t.nulls i first_position ≡ position_at id = ap (λ (ns : List Position). get_or ns i first_position) (sym seen) ∙ get_or-map position_at ids i id first_position h ∙ ap position_at (sym at) in
     let here : id_position id ≡ Some (position_at id) =
-      ap id_position at ∙ sym (get_or-map id_position ids i id None h) ∙ ap (λ (os : List (Option Position)). get_or os i None) kept ∙ get_or-map (λ q. Some (position_at q)) ids i id None h ∙ ap (λ q. Some (position_at q)) (sym at)
+    ap id_position at ∙ sym (get_or-map id_position ids i id None h) ∙ ap (λ (os : List (Option Position)). get_or os i None) kept ∙ get_or-map (λ q. Some (position_at q)) ids i id None h ∙ ap (λ q. Some (position_at q)) (sym at)
     in
     ap (λ (o : Option Position). o ∷ []) (here ∙ ap (λ (y : Position). Some y) (sym x))
     ∙ sym (ap (map (λ y. Some y)) (get_or_append_left xs (map (λ e. cond e.marked [] e.positions) t.entries) [] i l ∙ get_or-map (λ (y : Position). y ∷ []) t.nulls i first_position [] m))

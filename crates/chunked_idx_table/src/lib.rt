@@ -1,5 +1,5 @@
-//! The probe table: the keys of build rows with the positions of these rows, in chunks, and what probes and lists of
-//! unmarked keys reply under limits.
+//! The probe table: the keys of build rows with the positions of these rows, in chunks, and what
+//! probes and lists of unmarked keys reply under limits.
 #![tactic(auto)]
 
 mod laws;
@@ -8,5 +8,5 @@ mod table;
 mod words;
 
 pub use laws::{few_pairs_under_a_limit, probes_resume, unmarked_keys_resume};
-pub use row_encoded::RowEncodedChunkedIdxTable;
+pub use row_encoded::{RowEncodedChunkedIdxTable, new_chunked_idx_table};
 pub use table::ChunkedIdxTable;

@@ -1,5 +1,6 @@
 //! A table whose keys are the bytes of their rows.
-ghost use Rattle.std.specs.Prelude.{◌≡◌, ℕ, ◌+◌, ◌-◌, ◌<◌, ◌^◌, ◌++◌, ◌&&◌, [], ◌∷◌, List, Bool, Some, None, IfOk, IfSome, OnOk, OnErr};
+ghost use Rattle.std.specs.Prelude.{◌≡◌, ℕ, ◌+◌, ◌-◌, ◌<◌, ◌^◌, ◌++◌, ◌&&◌, [], ◌∷◌, List, Bool};
+ghost use Rattle.std.specs.Prelude.{Some, None, IfOk, IfSome, OnOk, OnErr};
 ghost use Rattle.std.specs.Prelude.{map, take, drop, length, get_or, cond, is_some, option_copied};
 ghost use Rattle.std.specs.List.{All, flat_map};
 ghost use Rattle.key_parts.specs.Positions.{position};
@@ -9,13 +10,18 @@ ghost use Rattle.hash_keys.specs.Views.{keys_of, state_of};
 ghost use Rattle.chunked_idx_table.specs.Replies.{processed};
 ghost use Rattle.chunked_idx_table.specs.Tables.{empty_table, size_of};
 ghost use Rattle.chunked_idx_table.specs.Inserts.{with_position, with_rows, searches};
-ghost use Rattle.chunked_idx_table.specs.Probes.{found, matches, marked_more, is_key, key_index, row_matches, keys_at, items};
+ghost use Rattle.chunked_idx_table.specs.Probes.{found, matches, marked_more, is_key, key_index};
+ghost use Rattle.chunked_idx_table.specs.Probes.{keys_at, items};
 ghost use Rattle.chunked_idx_table.specs.Probes.{asked_rows, Answered, AnswersFront};
+ghost use Rattle.chunked_idx_table.specs.Resumed.{probed};
 ghost use Rattle.chunked_idx_table.specs.Words.{position_kept};
 
 use crate::table::ChunkedIdxTable;
-use crate::words::{Words, is_marked, mark, push_matches, push_positions, push_unmatched, push_word};
+use crate::words::{
+    Words, is_marked, mark, push_matches, push_positions, push_unmatched, push_word,
+};
 use byte_map::{BytesIndexMap, Found};
+use col_core::Schema;
 use hash_keys::HashKeys;
 use key_parts::{ChunkId, IdxSize, PlRandomState};
 use std::alloc::{AllocError, Global};
@@ -40,7 +46,12 @@ impl Model for RowEncodedChunkedIdxTable {
 
     ghost Value = { ProbeTable };
 
-    ghost view = { λ t. record { entries = map key_entry t.known.entries; nulls = map position_at t.nulls.items; chunks = t.num_chunks; state = t.random_state } };
+    ghost view = { λ t. record {
+      entries = map key_entry t.known.entries;
+      nulls = map position_at t.nulls.items;
+      chunks = t.num_chunks;
+      state = t.random_state;
+    } };
 
     ghost invariant = { λ t. AreKept t.random_state t.known.entries t.nulls.items };
 }
@@ -64,7 +75,8 @@ impl RowEncodedChunkedIdxTable {
         requires { hash ≡ hash_of self.now.state key.now }
         ensures at { result ≡ key_index key.now self.now }
         ensures absent { result ≡ None → found self.now.entries key.now ≡ [] }
-        ensures unmarked { result ≡ None → marked_more (λ k. is_key k (Some key.now)) self.now ≡ self.now }
+        ensures unmarked { result ≡ None → marked_more (λ k. is_key k (Some key.now)) self.now
+            ≡ self.now }
         ensures cost { steps.new ≡ steps.old + 1 }
     {
         self.known.index_of(hash, key, steps)
@@ -73,10 +85,9 @@ impl RowEncodedChunkedIdxTable {
     /// The words of the key that stands at an index: its matches.
     fn words(&self, at: u32) -> &[u64]
         requires { at < length self.now.entries }
-        ensures {
-            (key : List ℕ) (emit : Bool) → key_index key self.now ≡ Some at
-            → matches self.now.entries emit (Some key) ≡ map (λ word. Some (position_kept word)) result.now
-        }
+        ensures { (key : List ℕ) (emit : Bool) → key_index key self.now ≡ Some at
+            → matches self.now.entries emit (Some key)
+            ≡ map (λ word. Some (position_kept word)) result.now }
     {
         self.known.value_at(at).as_slice()
     }
@@ -90,7 +101,8 @@ impl RowEncodedChunkedIdxTable {
         mark(self.known.value_at_mut(at));
     }
 
-    /// Appends the matches of a key beside an index, and marks the key. For want of memory nothing has changed.
+    /// Appends the matches of a key beside an index, and marks the key. For want of memory nothing
+    /// has changed.
     fn answer<L: Ledger>(
         &mut self,
         key: Option<&[u8]>,
@@ -103,17 +115,14 @@ impl RowEncodedChunkedIdxTable {
         steps: &mut Steps<L>,
     ) -> Result<(), AllocError>
         requires { IfSome key (λ k. hash ≡ hash_of self.old.state k.now) }
-        ensures positions {
-            OnOk result (map position table_match.new.items
-                ≡ map position table_match.old.items ++ matches self.old.entries emit (option_copied key.entry))
-        }
-        ensures indexes {
-            OnOk result (probe_match.new.items
-                ≡ probe_match.old.items ++ map (λ _. index) (matches self.old.entries emit (option_copied key.entry)))
-        }
-        ensures marked {
-            OnOk result (self.new ≡ marked_more (λ k. marks && is_key k (option_copied key.entry)) self.old)
-        }
+        ensures positions { OnOk result (map position table_match.new.items
+            ≡ map position table_match.old.items
+            ++ matches self.old.entries emit (option_copied key.entry)) }
+        ensures indexes { OnOk result (probe_match.new.items
+            ≡ probe_match.old.items
+            ++ map (λ _. index) (matches self.old.entries emit (option_copied key.entry))) }
+        ensures marked { OnOk result (self.new
+            ≡ marked_more (λ k. marks && is_key k (option_copied key.entry)) self.old) }
         ensures err { OnErr result (table_match.new.items ≡ table_match.old.items) }
         ensures err_indexes { OnErr result (probe_match.new.items ≡ probe_match.old.items) }
         ensures err_marks { OnErr result (self.new ≡ self.old) }
@@ -144,29 +153,24 @@ impl RowEncodedChunkedIdxTable {
         limit: IdxSize,
         steps: &mut Steps<L>,
     ) -> Result<IdxSize, AllocError>
-        requires inside {
-            All (λ i. i < length (keys_of hash_keys.now)) (asked_rows (keys_of hash_keys.now) (option_copied subset))
-        }
+        requires inside { All (λ i. i < length (keys_of hash_keys.now))
+            (asked_rows (keys_of hash_keys.now) (option_copied subset)) }
         requires few { IfSome subset (λ rows. length rows.now < 2 ^ 32) }
         requires same_state { state_of hash_keys.now ≡ self.old.state }
-        ensures count {
-            IfOk result (λ n. n ≡ processed (row_matches self.old (keys_of hash_keys.now) emit_unmatched) limit
-                (asked_rows (keys_of hash_keys.now) (option_copied subset.entry)))
-        }
-        ensures ok {
-            IfOk result (λ n. Answered mark_matches emit_unmatched self.old (keys_of hash_keys.now)
-                (take n (asked_rows (keys_of hash_keys.now) (option_copied subset.entry))) self.new
-                (map position table_match.new.items) probe_match.new.items)
-        }
-        ensures cost {
-            IfOk result (λ n. steps.new ≡ steps.old + searches (keys_at (keys_of hash_keys.now)
-                (take n (asked_rows (keys_of hash_keys.now) (option_copied subset.entry)))))
-        }
-        ensures err {
-            OnErr result (AnswersFront mark_matches emit_unmatched self.old (keys_of hash_keys.now)
-                (asked_rows (keys_of hash_keys.now) (option_copied subset.entry)) self.new
-                (map position table_match.new.items) probe_match.new.items steps.old steps.new)
-        }
+        ensures count { IfOk result (λ n. n
+            ≡ probed self.old (keys_of hash_keys.now) emit_unmatched limit
+            (asked_rows (keys_of hash_keys.now) (option_copied subset.entry))) }
+        ensures ok { IfOk result (λ n. Answered mark_matches emit_unmatched self.old
+            (keys_of hash_keys.now)
+            (take n (asked_rows (keys_of hash_keys.now) (option_copied subset.entry))) self.new
+            (map position table_match.new.items) probe_match.new.items) }
+        ensures cost { IfOk result (λ n. steps.new
+            ≡ steps.old + searches (keys_at (keys_of hash_keys.now)
+            (take n (asked_rows (keys_of hash_keys.now) (option_copied subset.entry))))) }
+        ensures err { OnErr result (AnswersFront mark_matches emit_unmatched self.old
+            (keys_of hash_keys.now)
+            (asked_rows (keys_of hash_keys.now) (option_copied subset.entry)) self.new
+            (map position table_match.new.items) probe_match.new.items steps.old steps.new) }
     {
         table_match.clear();
         probe_match.clear();
@@ -192,13 +196,14 @@ impl RowEncodedChunkedIdxTable {
         Ok(count)
     }
 
-    /// Appends a word to those of the key that stands at an index. For want of memory nothing has changed.
+    /// Appends a word to those of the key that stands at an index. For want of memory nothing has
+    /// changed.
     fn add_at(&mut self, at: u32, key: &[u8], word: u64) -> Result<(), AllocError>
         requires { key_index key.now self.old ≡ Some at }
-        ensures ok {
-            OnOk result (self.new
-                ≡ record self.old { entries = with_position self.old.entries key.now (position_kept word) })
-        }
+        ensures ok { OnOk result (self.new
+            ≡ record self.old {
+              entries = with_position self.old.entries key.now (position_kept word);
+            }) }
         ensures err { OnErr result (self.new ≡ self.old) }
     {
         push_word(self.known.value_at_mut(at), word)?;
@@ -215,13 +220,12 @@ impl RowEncodedChunkedIdxTable {
     ) -> Result<(), AllocError>
         requires hashed { hash ≡ hash_of self.old.state key.now }
         requires unmarked { word < 2 ^ 63 }
-        requires few {
-            length (with_position self.old.entries key.now (position_kept word)) + length self.old.nulls < 2 ^ 32
-        }
-        ensures ok {
-            OnOk result (self.new
-                ≡ record self.old { entries = with_position self.old.entries key.now (position_kept word) })
-        }
+        requires few { length (with_position self.old.entries key.now (position_kept word))
+            + length self.old.nulls < 2 ^ 32 }
+        ensures ok { OnOk result (self.new
+            ≡ record self.old {
+              entries = with_position self.old.entries key.now (position_kept word);
+            }) }
         ensures err { OnErr result (self.new ≡ self.old) }
         ensures cost { steps.new ≡ steps.old + 1 }
     {
@@ -245,14 +249,10 @@ impl RowEncodedChunkedIdxTable {
     ) -> Result<(), AllocError>
         requires hashed { IfSome key (λ k. hash ≡ hash_of self.old.state k.now) }
         requires row { row < 2 ^ 31 }
-        requires few {
-            size_of (with_rows track self.old
-                ((option_copied key, record { chunk = self.old.chunks; row = row }) ∷ [])) < 2 ^ 32
-        }
-        ensures ok {
-            OnOk result (self.new ≡ with_rows track self.old
-                ((option_copied key.entry, record { chunk = self.old.chunks; row = row }) ∷ []))
-        }
+        requires few { size_of (with_rows track self.old
+            ((option_copied key, record { chunk = self.old.chunks; row = row }) ∷ [])) < 2 ^ 32 }
+        ensures ok { OnOk result (self.new ≡ with_rows track self.old
+            ((option_copied key.entry, record { chunk = self.old.chunks; row = row }) ∷ [])) }
         ensures err { OnErr result (self.new ≡ self.old) }
         ensures cost { steps.new ≡ steps.old + cond (is_some key.entry) 1 0 }
     {
@@ -269,10 +269,8 @@ impl RowEncodedChunkedIdxTable {
     /// Appends what an item gives. For want of memory nothing has changed.
     fn push_item(&self, i: u32, out: &mut Vec<ChunkId>) -> Result<(), AllocError>
         requires { i < size_of self.now }
-        ensures ok {
-            OnOk result (map position out.new.items
-                ≡ map position out.old.items ++ map (λ x. Some x) (get_or (items self.now) i []))
-        }
+        ensures ok { OnOk result (map position out.new.items
+            ≡ map position out.old.items ++ map (λ x. Some x) (get_or (items self.now) i [])) }
         ensures err { OnErr result (out.new.items ≡ out.old.items) }
     {
         let nulls = self.nulls.len() as u32;
@@ -287,14 +285,14 @@ impl RowEncodedChunkedIdxTable {
         push_positions(words, out)
     }
 
-    /// Lists what the items from an offset on give, until there are as many positions as the limit, or more.
+    /// Lists what the items from an offset on give, until there are as many positions as the limit,
+    /// or more.
     fn list_items(&self, out: &mut Vec<ChunkId>, offset: u32, limit: u32) -> Result<u32, AllocError>
         requires { out.old.items ≡ [] }
-        ensures count { IfOk result (λ n. n ≡ processed (λ x. x) limit (drop offset (items self.now))) }
-        ensures ok {
-            IfOk result (λ n. map position out.new.items
-                ≡ map (λ x. Some x) (flat_map (λ x. x) (take n (drop offset (items self.now)))))
-        }
+        ensures count { IfOk result (λ n. n ≡ processed (λ x. x) limit
+            (drop offset (items self.now))) }
+        ensures ok { IfOk result (λ n. map position out.new.items
+            ≡ map (λ x. Some x) (flat_map (λ x. x) (take n (drop offset (items self.now))))) }
     {
         let count = (self.num_keys() + self.num_null_rows()).saturating_sub(offset);
         for i in 0..count {
@@ -305,6 +303,17 @@ impl RowEncodedChunkedIdxTable {
         }
         Ok(count)
     }
+}
+
+/// A table without a row, for keys of a schema, which does not matter: keys come as bytes.
+pub fn new_chunked_idx_table(
+    alloc: Global,
+    _key_schema: &Schema,
+    random_state: PlRandomState,
+) -> Result<RowEncodedChunkedIdxTable, AllocError>
+    ensures { IfOk result (λ t. t ≡ empty_table random_state) }
+{
+    RowEncodedChunkedIdxTable::new(alloc, random_state)
 }
 
 /// How many rows are asked for.
@@ -321,10 +330,8 @@ fn number_asked(hash_keys: &HashKeys, subset: Option<&[IdxSize]>) -> u32
 /// The row that is asked for in the i-th place.
 fn asked_row(subset: Option<&[IdxSize]>, i: u32) -> IdxSize
     requires { IfSome subset (λ rows. i < length rows.now) }
-    ensures {
-        (keys : List Key) → i < length (asked_rows keys (option_copied subset.entry))
-        → result ≡ get_or (asked_rows keys (option_copied subset.entry)) i 0
-    }
+    ensures { (keys : List Key) → i < length (asked_rows keys (option_copied subset.entry))
+        → result ≡ get_or (asked_rows keys (option_copied subset.entry)) i 0 }
 {
     match subset {
         Some(rows) => rows[i as usize],

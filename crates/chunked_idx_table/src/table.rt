@@ -8,8 +8,9 @@ ghost use Rattle.chunked_idx_table.specs.Replies.{processed};
 ghost use Rattle.chunked_idx_table.specs.Tables.{ProbeTable, empty_table, table_keys, size_of};
 ghost use Rattle.chunked_idx_table.specs.Tables.{AreDistinct, HavePositions};
 ghost use Rattle.chunked_idx_table.specs.Inserts.{with_chunk, searches, InsertsFront};
-ghost use Rattle.chunked_idx_table.specs.Probes.{row_matches, keys_at, all_rows, items};
+ghost use Rattle.chunked_idx_table.specs.Probes.{keys_at, all_rows, items};
 ghost use Rattle.chunked_idx_table.specs.Probes.{Answered, AnswersFront};
+ghost use Rattle.chunked_idx_table.specs.Resumed.{probed};
 ghost use Rattle.chunked_idx_table.specs.Words.{position_kept};
 
 use hash_keys::HashKeys;
@@ -18,8 +19,8 @@ use std::alloc::{AllocError, Global};
 use std::sync::ledger::Ledger;
 use step_count::Steps;
 
-/// The rows of a join's build side, in chunks, by their keys. A position is a chunk and a row of it. Keys are found under
-/// the table's state, and come hashed under it.
+/// The rows of a join's build side, in chunks, by their keys. A position is a chunk and a row of
+/// it. Keys are found under the table's state, and come hashed under it.
 ///
 /// A present key that is inserted or probed takes one step of search, a null key none.
 pub trait ChunkedIdxTable: Drop {
@@ -63,19 +64,20 @@ pub trait ChunkedIdxTable: Drop {
         requires { i < length (seen self.now).entries }
         ensures { slice_get (map (λ e. e.marked) (seen self.now).entries) i ≡ Some result };
 
-    /// The positions of a key, in order of insertion: the words of their ids, of which the top bit is to be ignored.
+    /// The positions of a key, in order of insertion: the words of their ids, of which the top bit
+    /// is to be ignored.
     fn positions(&self, i: IdxSize) -> &[u64]
         requires { i < length (seen self.now).entries }
-        ensures {
-            slice_get (map (λ e. e.positions) (seen self.now).entries) i ≡ Some (map position_kept result.now)
-        };
+        ensures { slice_get (map (λ e. e.positions) (seen self.now).entries) i
+            ≡ Some (map position_kept result.now) };
 
     /// The positions of the null keys, in order of insertion.
     fn null_rows(&self) -> &[ChunkId]
         ensures { map position result.now ≡ map (λ x. Some x) (seen self.now).nulls };
 
-    /// Takes the rows of a chunk in order: a position for each, under its key, or with the null positions where the key is
-    /// null and these are tracked. Then the chunk number rises, for a chunk without rows too.
+    /// Takes the rows of a chunk in order: a position for each, under its key, or with the null
+    /// positions where the key is null and these are tracked. Then the chunk number rises, for a
+    /// chunk without rows too.
     fn insert_key_chunk<L: Ledger>(
         &mut self,
         keys: HashKeys,
@@ -86,17 +88,18 @@ pub trait ChunkedIdxTable: Drop {
         requires few_chunks { (seen self.old).chunks < 2 ^ 32 - 1 }
         requires few { size_of (with_chunk track_unmatchable (seen self.old) (keys_of keys)) < 2 ^ 32 }
         requires same_state { state_of keys ≡ (seen self.old).state }
-        ensures ok { OnOk result (seen self.new ≡ with_chunk track_unmatchable (seen self.old) (keys_of keys)) }
+        ensures ok { OnOk result (seen self.new
+            ≡ with_chunk track_unmatchable (seen self.old) (keys_of keys)) }
         ensures cost { OnOk result (steps.new ≡ steps.old + searches (keys_of keys)) }
-        ensures err {
-            OnErr result (InsertsFront track_unmatchable (seen self.old) (keys_of keys) (seen self.new) steps.old steps.new)
-        };
+        ensures err { OnErr result (InsertsFront track_unmatchable (seen self.old) (keys_of keys)
+            (seen self.new) steps.old steps.new) };
 
-    /// Answers keys in order, and stops after the first at which there are as many matches as the limit, or more. Each match
-    /// of a key is a position in `table_match` beside the key's index in `probe_match`, both cleared before. A key without a
-    /// match, or a null key, has no match, or one null id where that is asked by `emit_unmatched`. With `mark_matches` the
-    /// keys that were matched are marked. The answer is the number of keys that were answered, at least one where there is
-    /// any.
+    /// Answers keys in order, and stops after the first at which there are as many matches as the
+    /// limit, or more. Each match of a key is a position in `table_match` beside the key's index in
+    /// `probe_match`, both cleared before. A key without a match, or a null key, has no match, or
+    /// one null id where that is asked by `emit_unmatched`. With `mark_matches` the keys that were
+    /// matched are marked. The answer is the number of keys that were answered, at least one where
+    /// there is any.
     fn probe<L: Ledger>(
         &mut self,
         hash_keys: &HashKeys,
@@ -108,24 +111,19 @@ pub trait ChunkedIdxTable: Drop {
         steps: &mut Steps<L>,
     ) -> Result<IdxSize, AllocError>
         requires same_state { state_of hash_keys.now ≡ (seen self.old).state }
-        ensures count {
-            IfOk result (λ n. n ≡ processed (row_matches (seen self.old) (keys_of hash_keys.now) emit_unmatched) limit
-                (all_rows (keys_of hash_keys.now)))
-        }
-        ensures ok {
-            IfOk result (λ n. Answered mark_matches emit_unmatched (seen self.old) (keys_of hash_keys.now)
-                (take n (all_rows (keys_of hash_keys.now))) (seen self.new)
-                (map position table_match.new.items) probe_match.new.items)
-        }
-        ensures cost {
-            IfOk result (λ n. steps.new ≡ steps.old + searches (keys_at (keys_of hash_keys.now)
-                (take n (all_rows (keys_of hash_keys.now)))))
-        }
-        ensures err {
-            OnErr result (AnswersFront mark_matches emit_unmatched (seen self.old) (keys_of hash_keys.now)
-                (all_rows (keys_of hash_keys.now)) (seen self.new)
-                (map position table_match.new.items) probe_match.new.items steps.old steps.new)
-        };
+        ensures count { IfOk result (λ n. n
+            ≡ probed (seen self.old) (keys_of hash_keys.now) emit_unmatched limit
+            (all_rows (keys_of hash_keys.now))) }
+        ensures ok { IfOk result (λ n. Answered mark_matches emit_unmatched (seen self.old)
+            (keys_of hash_keys.now)
+            (take n (all_rows (keys_of hash_keys.now))) (seen self.new)
+            (map position table_match.new.items) probe_match.new.items) }
+        ensures cost { IfOk result (λ n. steps.new
+            ≡ steps.old + searches (keys_at (keys_of hash_keys.now)
+            (take n (all_rows (keys_of hash_keys.now))))) }
+        ensures err { OnErr result (AnswersFront mark_matches emit_unmatched (seen self.old)
+            (keys_of hash_keys.now) (all_rows (keys_of hash_keys.now)) (seen self.new)
+            (map position table_match.new.items) probe_match.new.items steps.old steps.new) };
 
     /// `probe` of the keys at some indexes, in their order, beside these indexes.
     fn probe_subset<L: Ledger>(
@@ -142,25 +140,22 @@ pub trait ChunkedIdxTable: Drop {
         requires inside { All (λ i. i < length (keys_of hash_keys.now)) subset.now }
         requires few { length subset.now < 2 ^ 32 }
         requires same_state { state_of hash_keys.now ≡ (seen self.old).state }
-        ensures count {
-            IfOk result (λ n. n ≡ processed (row_matches (seen self.old) (keys_of hash_keys.now) emit_unmatched) limit
-                subset.now)
-        }
-        ensures ok {
-            IfOk result (λ n. Answered mark_matches emit_unmatched (seen self.old) (keys_of hash_keys.now)
-                (take n subset.now) (seen self.new) (map position table_match.new.items) probe_match.new.items)
-        }
-        ensures cost {
-            IfOk result (λ n. steps.new ≡ steps.old + searches (keys_at (keys_of hash_keys.now) (take n subset.now)))
-        }
-        ensures err {
-            OnErr result (AnswersFront mark_matches emit_unmatched (seen self.old) (keys_of hash_keys.now) subset.now
-                (seen self.new) (map position table_match.new.items) probe_match.new.items steps.old steps.new)
-        };
+        ensures count { IfOk result (λ n. n
+            ≡ probed (seen self.old) (keys_of hash_keys.now) emit_unmatched limit subset.now) }
+        ensures ok { IfOk result (λ n. Answered mark_matches emit_unmatched (seen self.old)
+            (keys_of hash_keys.now)
+            (take n subset.now) (seen self.new)
+            (map position table_match.new.items) probe_match.new.items) }
+        ensures cost { IfOk result (λ n. steps.new
+            ≡ steps.old + searches (keys_at (keys_of hash_keys.now) (take n subset.now))) }
+        ensures err { OnErr result (AnswersFront mark_matches emit_unmatched (seen self.old)
+            (keys_of hash_keys.now) subset.now (seen self.new)
+            (map position table_match.new.items) probe_match.new.items steps.old steps.new) };
 
-    /// Lists, into `out`, which is cleared before, what the items of the table give from an offset on: first the null
-    /// positions, one an item, and then the keys, each with all its positions, unless it is marked. It stops after the first
-    /// item at which there are as many positions as the limit, or more. The answer is the number of items, 0 past the end.
+    /// Lists, into `out`, which is cleared before, what the items of the table give from an offset
+    /// on: first the null positions, one an item, and then the keys, each with all its positions,
+    /// unless it is marked. It stops after the first item at which there are as many positions as
+    /// the limit, or more. The answer is the number of items, 0 past the end.
     fn unmarked_keys(
         &self,
         out: &mut Vec<ChunkId>,
@@ -168,10 +163,10 @@ pub trait ChunkedIdxTable: Drop {
         limit: IdxSize,
     ) -> Result<IdxSize, AllocError>
         requires { 0 < limit }
-        ensures count { IfOk result (λ n. n ≡ processed (λ x. x) limit (drop offset (items (seen self.now)))) }
-        ensures ok {
-            IfOk result (λ n. map position out.new.items
-                ≡ map (λ x. Some x) (flat_map (λ x. x) (take n (drop offset (items (seen self.now))))))
-        }
+        ensures count { IfOk result (λ n. n ≡ processed (λ x. x) limit
+            (drop offset (items (seen self.now)))) }
+        ensures ok { IfOk result (λ n. map position out.new.items
+            ≡ map (λ x. Some x) (flat_map (λ x. x) (take n
+            (drop offset (items (seen self.now)))))) }
         ensures err { OnErr result (out.new.items ≡ []) };
 }

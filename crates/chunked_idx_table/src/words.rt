@@ -42,9 +42,8 @@ pub(crate) fn mark(words: &mut Words)
 /// Appends a word to those of a key.
 pub(crate) fn push_word(words: &mut Words, word: u64) -> Result<(), AllocError>
     requires { 0 < length words.old.items }
-    ensures added {
-        OnOk result (map position_kept words.new.items ≡ map position_kept words.old.items ++ position_kept word ∷ [])
-    }
+    ensures added { OnOk result (map position_kept words.new.items
+        ≡ map position_kept words.old.items ++ position_kept word ∷ []) }
     ensures mark { OnOk result (has_mark words.new.items ≡ has_mark words.old.items) }
     ensures some { 0 < length words.new.items }
     ensures err { OnErr result (words.new ≡ words.old) }
@@ -55,10 +54,8 @@ pub(crate) fn push_word(words: &mut Words, word: u64) -> Result<(), AllocError>
 
 /// Appends the positions of a key. For want of memory nothing has changed.
 pub(crate) fn push_positions(words: &[u64], out: &mut Vec<ChunkId>) -> Result<(), AllocError>
-    ensures ok {
-        OnOk result (map position out.new.items
-            ≡ map position out.old.items ++ map (λ word. Some (position_kept word)) words.now)
-    }
+    ensures ok { OnOk result (map position out.new.items
+        ≡ map position out.old.items ++ map (λ word. Some (position_kept word)) words.now) }
     ensures err { OnErr result (out.new.items ≡ out.old.items) }
 {
     out.reserve(words.len())?;
@@ -75,13 +72,10 @@ pub(crate) fn push_matches(
     table_match: &mut Vec<ChunkId>,
     probe_match: &mut Vec<IdxSize>,
 ) -> Result<(), AllocError>
-    ensures positions {
-        OnOk result (map position table_match.new.items
-            ≡ map position table_match.old.items ++ map (λ word. Some (position_kept word)) words.now)
-    }
-    ensures indexes {
-        OnOk result (probe_match.new.items ≡ probe_match.old.items ++ map (λ _. index) words.now)
-    }
+    ensures positions { OnOk result (map position table_match.new.items
+        ≡ map position table_match.old.items ++ map (λ word. Some (position_kept word)) words.now) }
+    ensures indexes { OnOk result (probe_match.new.items ≡ probe_match.old.items
+        ++ map (λ _. index) words.now) }
     ensures err { OnErr result (table_match.new.items ≡ table_match.old.items) }
     ensures err_indexes { OnErr result (probe_match.new.items ≡ probe_match.old.items) }
 {
@@ -100,12 +94,10 @@ pub(crate) fn push_unmatched(
     table_match: &mut Vec<ChunkId>,
     probe_match: &mut Vec<IdxSize>,
 ) -> Result<(), AllocError>
-    ensures positions {
-        OnOk result (map position table_match.new.items ≡ map position table_match.old.items ++ or_null emit [])
-    }
-    ensures indexes {
-        OnOk result (probe_match.new.items ≡ probe_match.old.items ++ map (λ _. index) (or_null emit []))
-    }
+    ensures positions { OnOk result (map position table_match.new.items
+        ≡ map position table_match.old.items ++ or_null emit []) }
+    ensures indexes { OnOk result (probe_match.new.items ≡ probe_match.old.items
+        ++ map (λ _. index) (or_null emit [])) }
     ensures err { OnErr result (table_match.new.items ≡ table_match.old.items) }
     ensures err_indexes { OnErr result (probe_match.new.items ≡ probe_match.old.items) }
 {
