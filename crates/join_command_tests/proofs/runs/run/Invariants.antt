@@ -1,4 +1,4 @@
-use Rattle.join_tool_tests.proofs.runs.run.Given as goal
+use Rattle.join_command_tests.proofs.runs.run.Given as goal
 
 -- the ledger of steps that nobody counts
 abbrev pub ghosts-run_uncounted : goal.ghosts-run_uncounted

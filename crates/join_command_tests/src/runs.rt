@@ -1,6 +1,7 @@
 //! Runs of the program over streams in memory.
 ghost use Rattle.std.specs.Prelude.{◌≡◌, ◌<◌, ◌≤◌};
 
+use col_core::List;
 use join_command::run_tool;
 use join_text::{MemorySink, MemorySource, Source};
 use std::alloc::{AllocError, Global};
@@ -25,14 +26,16 @@ pub fn source_of(
     requires { 1 ≤ piece }
 {
     let bytes = bytes.to_vec(alloc)?;
-    Ok(MemorySource::new(bytes, piece, fail_at.to_vec(alloc)?))
+    let fail_at = List::from_vec(fail_at.to_vec(alloc)?);
+    Ok(MemorySource::new(bytes, piece, fail_at))
 }
 
 /// An empty sink with room for every text of these tests.
 pub fn sink(alloc: Global, piece: usize, fail_at: &[u64]) -> Result<MemorySink, AllocError>
     requires { 1 ≤ piece }
 {
-    MemorySink::new(alloc, 4096, piece, fail_at.to_vec(alloc)?)
+    let fail_at = List::from_vec(fail_at.to_vec(alloc)?);
+    MemorySink::new(alloc, 4096, piece, fail_at)
 }
 
 /// Runs the program.

@@ -1,4 +1,4 @@
-//! Tests of the program over streams in memory.
+//! Tests of `run_tool` over streams in memory.
 #![tactic(auto)]
 
 #[cfg(test)]
