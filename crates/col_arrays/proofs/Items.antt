@@ -1,7 +1,8 @@
 -- Items as two lists of one length: what is stored, and which items are present.
-use Rattle.std.proofs.Common.{◌≡◌, ℕ, zero, suc, ◌+◌, ◌<◌, ◌≤◌, Bool, true, false, not, List, [], ◌∷◌, ◌++◌, map, length, take, drop, replicate, get_or, Option, Some, None, Bor, MatchOption, Result, Ok, Err, OnOk, slice_get, option_and_then, refl, sym, ap, ap₂, ◌∙◌, arith}
+use Rattle.std.proofs.Common.{◌≡◌, ℕ, zero, suc, ◌+◌, ◌<◌, ◌≤◌, Bool, true, false, not, List, [], ◌∷◌, ◌++◌, map, length, take, drop, replicate, get_or, Option, Some, None, Bor, MatchOption, Result, Ok, Err, OnOk, slice_get, option_and_then, refl, sym, ap, ap₂, subst, ◌∙◌, arith}
 use Rattle.std.specs.List.{zip, count_by, All}
-use Rattle.std.proofs.lemmas.List.{take_more, append_assoc, length-drop, get_or-drop, map-append, take_all, take-append-le, length-replicate, get_or-replicate}
+use Rattle.std.proofs.lemmas.List.{take_more, append_assoc, length-drop, get_or-drop, map-append, take_all, take-append-le, length-replicate, get_or-replicate, length-map}
+use Rattle.std.proofs.lemmas.List.Elements.{All-nil, All-cons, All-head, All-tail}
 use Rattle.std.proofs.lemmas.Option.{slice_get-get_or, get_or_from_slice_get}
 use Rattle.std.proofs.lemmas.Slice.Zip.{firsts-zip, seconds-zip, get_or-zip}
 use Rattle.col_arrays.specs.Items.{item_of, stored, presence, all_present, nulls}
@@ -78,16 +79,33 @@ taken_items xs marks (i ∷ idxs) (y ∷ ys) (m ∷ ms) h e f =
     let more : map Some ms ≡ map (slice_get marks) idxs = cc in
     ap₂ (λ item rest. item ∷ rest) (sym (items_found xs marks i y h value ∙ ap (λ z. Some (y, z)) (get_or_from_slice_get marks i m false mark))) (taken_items xs marks idxs ys ms h values more)
 
+-- what holds of all values holds of those at indexes
+found_holds : {T : Type 0} (P : T → Type 0) (xs : List T) (i : ℕ) (y : T) → All P xs → slice_get xs i ≡ Some y → P y
+found_holds P [] i y all e = cc
+found_holds P (x ∷ xs) zero y all e = let same : x ≡ y = cc in subst P same (All-head P x xs all)
+found_holds P (x ∷ xs) (suc i) y all e = found_holds P xs i y (All-tail P x xs all) e
+
+pub taken_hold : {T : Type 0} (P : T → Type 0) (xs : List T) (idxs : List ℕ) (ys : List T) → All P xs → map Some ys ≡ map (slice_get xs) idxs → All P ys
+taken_hold P xs idxs [] all e = All-nil P
+taken_hold P xs [] (y ∷ ys) all e = cc
+taken_hold P xs (i ∷ idxs) (y ∷ ys) all e =
+    let here : slice_get xs i ≡ Some y = cc in
+    let rest : map Some ys ≡ map (slice_get xs) idxs = cc in
+    All-cons P y ys (found_holds P xs i y all here) (taken_hold P xs idxs ys all rest)
+
+pub length-taken : {T : Type 0} (xs : List T) (idxs : List ℕ) (ys : List T) → map Some ys ≡ map (slice_get xs) idxs → length ys ≡ length idxs
+length-taken xs idxs ys e = sym (length-map ys Some) ∙ ap length e ∙ length-map idxs (slice_get xs)
+
 -- more copies of a bit
 pub replicate_more : (b : Bool) (k : ℕ) → replicate (k + 1) b ≡ replicate k b ++ b ∷ []
 replicate_more b zero = refl
 replicate_more b (suc k) = let more : suc k + 1 ≡ suc (k + 1) = omega arith in ap (λ n. replicate n b) more ∙ ap (λ rest. b ∷ rest) (replicate_more b k)
 
 -- the marks that are lent, if any
-pub lent_marks : {T : Type 0} (xs : List T) (marks : List Bool) (lent : Option (Bor (List Bool))) → length marks ≡ length xs
+pub lent_bits : {T : Type 0} (xs : List T) (marks : List Bool) (lent : Option (Bor (List Bool))) → length marks ≡ length xs
     → MatchOption lent (All (λ mark. mark ≡ true) marks) (λ m. m.now ≡ marks) → MatchOption lent (All (λ (item : T × Bool). item.1 ≡ true) (zip xs marks)) (λ m. m.now ≡ presence (zip xs marks))
-lent_marks xs marks None h all = present_items xs marks h all
-lent_marks xs marks (Some m) h same = same ∙ sym (presence-items xs marks h)
+lent_bits xs marks None h all = present_items xs marks h all
+lent_bits xs marks (Some m) h same = same ∙ sym (presence-items xs marks h)
 
 -- indexes within the items are within what is stored, and within the marks
 pub within_parts : {T : Type 0} (xs : List T) (marks : List Bool) (items : List (T × Bool)) (idxs : List ℕ) (n : ℕ) → length marks ≡ length xs → zip xs marks ≡ items → n ≡ length xs → All (λ i. i < length items) idxs → All (λ i. i < n) idxs

@@ -1,5 +1,5 @@
 -- Bytes that are cut at offsets.
-use Rattle.std.proofs.Common.{◌≡◌, ℕ, ◌+◌, ◌-◌, ◌<◌, ◌≤◌, List, [], ◌∷◌, ◌++◌, length, drop, get_or, slice_get, Some, refl, sym, ap, ◌∙◌, subst, arith, zero-add, ◌⊎◌, inl, inr}
+use Rattle.std.proofs.Common.{◌≡◌, ℕ, ◌+◌, ◌-◌, ◌^◌, ◌<◌, ◌≤◌, List, [], ◌∷◌, ◌++◌, length, drop, get_or, slice_get, Some, refl, sym, ap, ◌∙◌, subst, arith, zero-add, ◌⊎◌, inl, inr}
 use Rattle.std.proofs.lemmas.List.{length-append, length-drop, take_all, drop-append-le, take-append-le, get_or_append_left}
 use Rattle.std.proofs.lemmas.List.FromFn.{length-map-range_with_len, get_or-map-range_with_len, fill_by_all}
 use Rattle.std.proofs.Math.ListN.{drop_of_length-le}
@@ -7,16 +7,18 @@ use Rattle.std.proofs.lemmas.Bool.{cases_lt}
 use Rattle.std.proofs.Math.Seq.{get_or-append_seam}
 use Rattle.std.proofs.lemmas.Option.{slice_get-get_or}
 use Rattle.std.proofs.lemmas.List.Sorted.{IsNonDecreasingBy-from_default}
-use Rattle.col_arrays.specs.Pieces.{piece, pieces, opened, AreOffsets}
+use Rattle.std.specs.List.{All, range_with_len}
+use Rattle.std.proofs.lemmas.List.Elements.{All-map, All-take, All-drop}
+use Rattle.col_arrays.specs.Buffer.{bytes_at, byte_items, opened, AreOffsets, AreBytes}
 
-pub length-pieces : (bytes offsets : List ℕ) → length (pieces bytes offsets) ≡ length offsets - 1
-length-pieces bytes offsets = length-map-range_with_len (piece bytes offsets) 0 (length offsets - 1)
+pub length-byte_items : (bytes offsets : List ℕ) → length (byte_items bytes offsets) ≡ length offsets - 1
+length-byte_items bytes offsets = length-map-range_with_len (bytes_at bytes offsets) 0 (length offsets - 1)
 
-pub piece_at : (bytes offsets : List ℕ) (i : ℕ) (d : List ℕ) → i < length offsets - 1 → get_or (pieces bytes offsets) i d ≡ piece bytes offsets i
-piece_at bytes offsets i d h = get_or-map-range_with_len (piece bytes offsets) 0 (length offsets - 1) i i d h (zero-add i)
+pub item_at : (bytes offsets : List ℕ) (i : ℕ) (d : List ℕ) → i < length offsets - 1 → get_or (byte_items bytes offsets) i d ≡ bytes_at bytes offsets i
+item_at bytes offsets i d h = get_or-map-range_with_len (bytes_at bytes offsets) 0 (length offsets - 1) i i d h (zero-add i)
 
-pub slice_get-pieces : (bytes offsets : List ℕ) (i : ℕ) → i < length offsets - 1 → slice_get (pieces bytes offsets) i ≡ Some (piece bytes offsets i)
-slice_get-pieces bytes offsets i h = slice_get-get_or (pieces bytes offsets) i [] (rw (length-pieces bytes offsets) h) ∙ ap Some (piece_at bytes offsets i [] h)
+pub slice_get-byte_items : (bytes offsets : List ℕ) (i : ℕ) → i < length offsets - 1 → slice_get (byte_items bytes offsets) i ≡ Some (bytes_at bytes offsets i)
+slice_get-byte_items bytes offsets i h = slice_get-get_or (byte_items bytes offsets) i [] (rw (length-byte_items bytes offsets) h) ∙ ap Some (item_at bytes offsets i [] h)
 
 pub step_up : (bytes offsets : List ℕ) (i : ℕ) → AreOffsets bytes offsets → i + 1 < length offsets → get_or offsets i 0 ≤ get_or offsets (i + 1) 0
 step_up bytes offsets i h l = h.ascend i (i + 1) 0 (omega arith) l
@@ -30,7 +32,7 @@ pub length-opened : (offsets : List ℕ) → length (opened offsets) - 1 ≡ len
 length-opened [] = refl
 length-opened (o ∷ offsets) = refl
 
--- where there is a piece, all offsets are kept
+-- where there is a bytes_at, all offsets are kept
 pub opened_all : (offsets : List ℕ) → 0 < length offsets → opened offsets ≡ offsets
 opened_all [] h = absurd (omega arith)
 opened_all (o ∷ offsets) h = refl
@@ -38,11 +40,11 @@ opened_all (o ∷ offsets) h = refl
 pub no_offsets : AreOffsets [] (0 ∷ [])
 no_offsets = record { some = omega arith; start = refl; ascend = λ i j d le l. let same : i ≡ j = omega arith in rw same (omega arith); end = refl }
 
--- ---- one more piece
+-- ---- one more bytes_at
 
--- a piece lies before what is appended
-piece_before : (bytes more offsets : List ℕ) (e i : ℕ) → AreOffsets bytes offsets → i + 1 < length offsets → piece (bytes ++ more) (offsets ++ e ∷ []) i ≡ piece bytes offsets i
-piece_before bytes more offsets e i h l =
+-- a bytes_at lies before what is appended
+item_before : (bytes more offsets : List ℕ) (e i : ℕ) → AreOffsets bytes offsets → i + 1 < length offsets → bytes_at (bytes ++ more) (offsets ++ e ∷ []) i ≡ bytes_at bytes offsets i
+item_before bytes more offsets e i h l =
     let a = get_or offsets i 0 in
     let b = get_or offsets (i + 1) 0 in
     let up : a ≤ b = step_up bytes offsets i h l in
@@ -52,9 +54,9 @@ piece_before bytes more offsets e i h l =
     rw (get_or_append_left offsets (e ∷ []) 0 i (omega arith), get_or_append_left offsets (e ∷ []) 0 (i + 1) l, drop-append-le a bytes more low)
     (take-append-le (b - a) (drop a bytes) more short)
 
--- what is appended is the last piece
-piece_after : (bytes more offsets : List ℕ) (n : ℕ) → AreOffsets bytes offsets → n + 1 ≡ length offsets → piece (bytes ++ more) (offsets ++ length (bytes ++ more) ∷ []) n ≡ more
-piece_after bytes more offsets n h l =
+-- what is appended is the last bytes_at
+item_after : (bytes more offsets : List ℕ) (n : ℕ) → AreOffsets bytes offsets → n + 1 ≡ length offsets → bytes_at (bytes ++ more) (offsets ++ length (bytes ++ more) ∷ []) n ≡ more
+item_after bytes more offsets n h l =
     let e = length (bytes ++ more) in
     let last : n ≡ length offsets - 1 = omega arith in
     let from : get_or (offsets ++ e ∷ []) n 0 ≡ length bytes = get_or_append_left offsets (e ∷ []) 0 n (omega arith) ∙ ap (λ k. get_or offsets k 0) last ∙ h.end in
@@ -62,32 +64,32 @@ piece_after bytes more offsets n h l =
     let rest : drop (length bytes) (bytes ++ more) ≡ more = drop-append-le (length bytes) bytes more (omega arith) ∙ ap (λ front. front ++ more) (drop_of_length-le bytes (omega arith)) in
     rw (from, upto, rest) (take_all (e - length bytes) more (omega (arith, length-append bytes more)))
 
--- each piece, with one more
-piece_of : (bytes more offsets : List ℕ) (k : ℕ) → AreOffsets bytes offsets → k < length offsets → (k < length offsets - 1) ⊎ (length offsets - 1 ≤ k)
-    → get_or (pieces bytes offsets ++ more ∷ []) k [] ≡ piece (bytes ++ more) (offsets ++ length (bytes ++ more) ∷ []) k
-piece_of bytes more offsets k h l (inl before) =
-    get_or_append_left (pieces bytes offsets) (more ∷ []) [] k (rw (length-pieces bytes offsets) before)
-    ∙ piece_at bytes offsets k [] before ∙ sym (piece_before bytes more offsets (length (bytes ++ more)) k h (omega arith))
-piece_of bytes more offsets k h l (inr after) =
-    let at_end : k ≡ length (pieces bytes offsets) = omega (arith, length-pieces bytes offsets) in
-    ap (λ i. get_or (pieces bytes offsets ++ more ∷ []) i []) at_end ∙ get_or-append_seam (pieces bytes offsets) more [] []
-    ∙ sym (piece_after bytes more offsets k h (omega arith))
+-- each bytes_at, with one more
+item_in : (bytes more offsets : List ℕ) (k : ℕ) → AreOffsets bytes offsets → k < length offsets → (k < length offsets - 1) ⊎ (length offsets - 1 ≤ k)
+    → get_or (byte_items bytes offsets ++ more ∷ []) k [] ≡ bytes_at (bytes ++ more) (offsets ++ length (bytes ++ more) ∷ []) k
+item_in bytes more offsets k h l (inl before) =
+    get_or_append_left (byte_items bytes offsets) (more ∷ []) [] k (rw (length-byte_items bytes offsets) before)
+    ∙ item_at bytes offsets k [] before ∙ sym (item_before bytes more offsets (length (bytes ++ more)) k h (omega arith))
+item_in bytes more offsets k h l (inr after) =
+    let at_end : k ≡ length (byte_items bytes offsets) = omega (arith, length-byte_items bytes offsets) in
+    ap (λ i. get_or (byte_items bytes offsets ++ more ∷ []) i []) at_end ∙ get_or-append_seam (byte_items bytes offsets) more [] []
+    ∙ sym (item_after bytes more offsets k h (omega arith))
 
-pieces_more : (bytes more offsets : List ℕ) → AreOffsets bytes offsets → pieces (bytes ++ more) (offsets ++ length (bytes ++ more) ∷ []) ≡ pieces bytes offsets ++ more ∷ []
-pieces_more bytes more offsets h =
+byte_items_more : (bytes more offsets : List ℕ) → AreOffsets bytes offsets → byte_items (bytes ++ more) (offsets ++ length (bytes ++ more) ∷ []) ≡ byte_items bytes offsets ++ more ∷ []
+byte_items_more bytes more offsets h =
     let e = length (bytes ++ more) in
     let some = h.some in
     let long : length (offsets ++ e ∷ []) ≡ length offsets + 1 = length-append offsets (e ∷ []) in
-    let count : length (pieces bytes offsets ++ more ∷ []) ≡ length (offsets ++ e ∷ []) - 1 = omega (arith, length-append (pieces bytes offsets) (more ∷ []), length-pieces bytes offsets) in
-    sym (fill_by_all (piece (bytes ++ more) (offsets ++ e ∷ [])) (pieces bytes offsets ++ more ∷ []) (length (offsets ++ e ∷ []) - 1) [] count
-    (λ k l. piece_of bytes more offsets k h (omega arith) (cases_lt k (length offsets - 1))))
+    let count : length (byte_items bytes offsets ++ more ∷ []) ≡ length (offsets ++ e ∷ []) - 1 = omega (arith, length-append (byte_items bytes offsets) (more ∷ []), length-byte_items bytes offsets) in
+    sym (fill_by_all (bytes_at (bytes ++ more) (offsets ++ e ∷ [])) (byte_items bytes offsets ++ more ∷ []) (length (offsets ++ e ∷ []) - 1) [] count
+    (λ k l. item_in bytes more offsets k h (omega arith) (cases_lt k (length offsets - 1))))
 
 opened_push : (offsets : List ℕ) (e : ℕ) → opened (opened offsets ++ e ∷ []) ≡ opened offsets ++ e ∷ []
 opened_push [] e = refl
 opened_push (o ∷ offsets) e = refl
 
-pub pieces-push : (bytes more offsets : List ℕ) → AreOffsets bytes (opened offsets) → pieces (bytes ++ more) (opened (opened offsets ++ length (bytes ++ more) ∷ [])) ≡ pieces bytes (opened offsets) ++ more ∷ []
-pieces-push bytes more offsets h = rw (opened_push offsets (length (bytes ++ more))) (pieces_more bytes more (opened offsets) h)
+pub byte_items-push : (bytes more offsets : List ℕ) → AreOffsets bytes (opened offsets) → byte_items (bytes ++ more) (opened (opened offsets ++ length (bytes ++ more) ∷ [])) ≡ byte_items bytes (opened offsets) ++ more ∷ []
+byte_items-push bytes more offsets h = rw (opened_push offsets (length (bytes ++ more))) (byte_items_more bytes more (opened offsets) h)
 
 offset_within : (bytes more offsets : List ℕ) (i j : ℕ) → AreOffsets bytes offsets → i ≤ j → j < length offsets + 1 → get_or (offsets ++ length (bytes ++ more) ∷ []) i 0 ≤ get_or (offsets ++ length (bytes ++ more) ∷ []) j 0
 offset_within bytes more offsets i j h le l =
@@ -117,21 +119,21 @@ offsets_more bytes more offsets h =
 pub offsets-push : (bytes more offsets : List ℕ) → AreOffsets bytes (opened offsets) → AreOffsets (bytes ++ more) (opened (opened offsets ++ length (bytes ++ more) ∷ []))
 offsets-push bytes more offsets h = subst (AreOffsets (bytes ++ more)) (sym (opened_push offsets (length (bytes ++ more)))) (offsets_more bytes more (opened offsets) h)
 
-pub ruleset sizes = (length-pieces, length-opened, no_offsets)
+pub ruleset sizes = (length-byte_items, length-opened, no_offsets)
 
-pub ruleset pushes = (pieces-push, offsets-push)
+pub ruleset pushes = (byte_items-push, offsets-push)
 
--- ---- the offsets of a piece, among those that are kept
+-- ---- the offsets of a bytes_at, among those that are kept
 
 pub record IsCutAt (bytes offsets : List ℕ) (now : List (List ℕ)) (i : ℕ) : Type 0 where
   pub kept : i + 1 < length offsets
   pub up : get_or offsets i 0 ≤ get_or offsets (i + 1) 0
   pub within : get_or offsets (i + 1) 0 ≤ length bytes
-  pub cut : slice_get now i ≡ Some (piece bytes offsets i)
+  pub cut : slice_get now i ≡ Some (bytes_at bytes offsets i)
 
-pub cut_at : (bytes offsets : List ℕ) (now : List (List ℕ)) (i : ℕ) → AreOffsets bytes (opened offsets) → pieces bytes (opened offsets) ≡ now → i < length now → IsCutAt bytes offsets now i
+pub cut_at : (bytes offsets : List ℕ) (now : List (List ℕ)) (i : ℕ) → AreOffsets bytes (opened offsets) → byte_items bytes (opened offsets) ≡ now → i < length now → IsCutAt bytes offsets now i
 cut_at bytes offsets now i h e l =
-    let size : length now ≡ length (opened offsets) - 1 = ap length (sym e) ∙ length-pieces bytes (opened offsets) in
+    let size : length now ≡ length (opened offsets) - 1 = ap length (sym e) ∙ length-byte_items bytes (opened offsets) in
     let inside : i + 1 < length offsets = omega (arith, length-opened offsets) in
     let all : opened offsets ≡ offsets = opened_all offsets (omega arith) in
     let kept : AreOffsets bytes offsets = subst (AreOffsets bytes) all h in
@@ -139,5 +141,15 @@ cut_at bytes offsets now i h e l =
       kept = inside;
       up = step_up bytes offsets i kept inside;
       within = within_bytes bytes offsets (i + 1) kept inside;
-      cut = ap (λ items. slice_get items i) (sym e ∙ ap (pieces bytes) all) ∙ slice_get-pieces bytes offsets i (omega arith);
+      cut = ap (λ items. slice_get items i) (sym e ∙ ap (byte_items bytes) all) ∙ slice_get-byte_items bytes offsets i (omega arith);
     }
+
+-- ---- what a byte holds
+
+pub bytes-items : (bytes offsets : List ℕ) → AreBytes bytes → All AreBytes (byte_items bytes offsets)
+bytes-items bytes offsets small =
+    let Byte : ℕ → Type 0 = λ b. b < 2 ^ 8 in
+    let places : List ℕ = range_with_len 0 (length offsets - 1) in
+    All-map AreBytes (bytes_at bytes offsets) places
+    (λ k d l. let i = get_or places k d in
+    All-take Byte (get_or offsets (i + 1) 0 - get_or offsets i 0) (drop (get_or offsets i 0) bytes) (All-drop Byte (get_or offsets i 0) bytes small))

@@ -1,3 +1,4 @@
 pub mod Bits
 pub mod Items
-pub mod Pieces
+pub mod Buffer
+pub mod Wraps

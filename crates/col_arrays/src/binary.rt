@@ -1,12 +1,12 @@
 //! Arrays of texts or bytes, of which some may be null.
 ghost use Rattle.std.specs.Prelude.{◌≡◌, ◌↔◌, ◌<◌, ◌≤◌, ◌+◌, ℕ, Bool, List, [], ◌∷◌, ◌++◌, Some, true, false, IsTrue, length, map, take, drop, OnOk, OnErr, IfOk, IfSome, MatchOption, option_and_then, slice_index_or, option_copied, slice_get};
 ghost use Rattle.std.specs.List.{All};
-ghost use Rattle.col_arrays.specs.Items.{item_of, stored, presence, all_present, nulls, marked};
-ghost use Rattle.col_arrays.specs.Pieces.{pieces, AreOffsets};
+ghost use Rattle.col_arrays.specs.Items.{item_of, stored, presence, all_present, nulls, with_validity};
+ghost use Rattle.col_arrays.specs.Buffer.{byte_items, AreOffsets, AreBytes};
 
 use crate::IdxSize;
 use crate::bitmap::Bitmap;
-use crate::pieces::Pieces;
+use crate::buffer::BinaryBuffer;
 use crate::validity::Validity;
 use std::alloc::{AllocError, Global};
 use std::marker::Model;
@@ -15,7 +15,7 @@ use std::marker::Model;
 /// of items: the bytes that are stored, also under a null, and whether the item is present.
 #[derive(Debug, Drop)]
 pub struct BinaryArray {
-    stored: Pieces,
+    stored: BinaryBuffer,
     validity: Validity,
 }
 
@@ -36,7 +36,7 @@ impl BinaryArray {
         ensures { result ≡ [] }
     {
         BinaryArray {
-            stored: Pieces::new(alloc),
+            stored: BinaryBuffer::new(alloc),
             validity: Validity::new(None, 0),
         }
     }
@@ -57,9 +57,9 @@ impl BinaryArray {
     #[tactic(auto, using(crate::proofs::Items::views))]
     pub fn from_parts(bytes: Vec<u8>, offsets: Vec<u64>) -> Self
         requires { AreOffsets bytes.items offsets.items }
-        ensures { result ≡ all_present (pieces bytes.items offsets.items) }
+        ensures { result ≡ all_present (byte_items bytes.items offsets.items) }
     {
-        let stored = Pieces::from_parts(bytes, offsets);
+        let stored = BinaryBuffer::from_parts(bytes, offsets);
         let validity = Validity::new(None, stored.len());
         BinaryArray { stored, validity }
     }
@@ -67,8 +67,8 @@ impl BinaryArray {
     /// The same bytes, null where the bit of `validity` is not set. Without a bitmap none is null.
     #[tactic(auto, using(crate::proofs::Items::views))]
     pub fn with_validity(self, validity: Option<Bitmap>) -> Self
-        requires { IfSome validity (λ marks. length marks ≡ length self) }
-        ensures { result ≡ marked self validity }
+        requires { IfSome validity (λ bits. length bits ≡ length self) }
+        ensures { result ≡ with_validity self validity }
     {
         let BinaryArray {
             stored,
@@ -81,15 +81,16 @@ impl BinaryArray {
     /// Which items are present: `None` only where no item is null.
     #[tactic(auto, using(crate::proofs::Items::views))]
     pub fn validity(&self) -> Option<&Bitmap>
-        ensures { MatchOption result (All (λ item. item.1 ≡ true) self.now) (λ marks. marks.now ≡ presence self.now) }
+        ensures { MatchOption result (All (λ item. item.1 ≡ true) self.now) (λ bits. bits.now ≡ presence self.now) }
     {
-        self.validity.marks()
+        self.validity.bits()
     }
 
     /// The number of items, nulls among them.
     #[tactic(auto, using(crate::proofs::Items::views))]
     pub fn len(&self) -> usize
-        ensures { result ≡ length self.now }
+        ensures len { result ≡ length self.now }
+        ensures bytes { All AreBytes (stored self.now) }
     {
         self.stored.len()
     }

@@ -1,7 +1,7 @@
 //! Arrays of truth values, of which some may be null.
 ghost use Rattle.std.specs.Prelude.{◌≡◌, ◌<◌, ◌≤◌, ◌+◌, [], ◌∷◌, ◌++◌, Bool, Some, true, false, length, map, take, drop, OnOk, OnErr, IfOk, IfSome, MatchOption, option_and_then, slice_index_or, slice_get};
 ghost use Rattle.std.specs.List.{All};
-ghost use Rattle.col_arrays.specs.Items.{item_of, stored, presence, all_present, nulls, marked};
+ghost use Rattle.col_arrays.specs.Items.{item_of, stored, presence, all_present, nulls, with_validity};
 
 use crate::IdxSize;
 use crate::bitmap::Bitmap;
@@ -54,8 +54,8 @@ impl BooleanArray {
     /// The same bits, null where the bit of `validity` is not set. Without a bitmap none is null.
     #[tactic(auto, using(crate::proofs::Items::views))]
     pub fn with_validity(self, validity: Option<Bitmap>) -> Self
-        requires { IfSome validity (λ marks. length marks ≡ length self) }
-        ensures { result ≡ marked self validity }
+        requires { IfSome validity (λ bits. length bits ≡ length self) }
+        ensures { result ≡ with_validity self validity }
     {
         let BooleanArray {
             stored,
@@ -68,9 +68,9 @@ impl BooleanArray {
     /// Which items are present: `None` only where no item is null.
     #[tactic(auto, using(crate::proofs::Items::views))]
     pub fn validity(&self) -> Option<&Bitmap>
-        ensures { MatchOption result (All (λ item. item.1 ≡ true) self.now) (λ marks. marks.now ≡ presence self.now) }
+        ensures { MatchOption result (All (λ item. item.1 ≡ true) self.now) (λ bits. bits.now ≡ presence self.now) }
     {
-        self.validity.marks()
+        self.validity.bits()
     }
 
     /// The number of items, nulls among them.

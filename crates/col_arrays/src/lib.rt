@@ -5,10 +5,10 @@ mod binary;
 mod bitmap;
 mod bits;
 mod boolean;
+mod buffer;
 mod mask;
 mod mutable;
 mod native;
-mod pieces;
 mod primitive;
 mod validity;
 

@@ -29,7 +29,7 @@ impl<'a> Model for BitMask<'a> {
 
 impl<'a> BitMask<'a> {
     /// The first `len` bits of the bytes.
-    pub(crate) fn new(bytes: &'a [u8], len: usize) -> Self
+    pub fn new(bytes: &'a [u8], len: usize) -> Self
         requires { len ≤ 8 * length bytes.now }
         ensures { result ≡ bits_of bytes.now len }
     {
@@ -93,7 +93,7 @@ impl<'a> BitMask<'a> {
     }
 
     /// The number of bits that are set, counted a word at a time.
-    pub(crate) fn set_bits(&self) -> usize
+    pub fn set_bits(&self) -> usize
         ensures { result ≡ count_by (λ bit. bit) self.now }
     {
         let mut set = 0;

@@ -1,33 +1,32 @@
 //! The types of the numbers in arrays.
-ghost use Rattle.std.specs.Prelude.{◌≡◌, ℤ, pos, FitsSigned};
-ghost use Rattle.std.specs.Int.{w8, w16, w32, w64, w128, FitsUnsigned};
+ghost use Rattle.std.specs.Prelude.{◌≡◌, ℤ, ◌+ℤ◌, unsigned_abs};
+ghost use Rattle.std.specs.Int.{w8, w16, w32, w64, w128};
+ghost use Rattle.std.proofs.Common.{ap};
+ghost use Rattle.col_arrays.specs.Wraps.{signed-wrap_add, unsigned-wrap_add};
 
 use num_traits::{PrimInt, WrappingAdd};
 
-/// A type of whole numbers that an array can hold. `T::zero()` is its start value.
+/// A type of whole numbers that an array can hold. `T.value x` is the whole number of `x`,
+/// `T.fits z` says that the type has the whole number `z`, and `T::zero()` is its start value.
 pub trait Native: PrimInt + WrappingAdd {
-    // The whole number that a value stands for.
-    ghost whole: { Self → ℤ };
-
-    // Whether the type has a whole number.
-    ghost holds: { ℤ → Type 0 };
-
     /// The whole number.
     fn to_whole(self) -> i128
-        ensures value { result ≡ whole self }
-        ensures held { holds (whole self) };
+        ensures value { result ≡ Self.value self }
+        ensures fits { Self.fits (Self.value self) };
 
     /// The value that stands for a whole number of the type.
     fn from_whole(z: i128) -> Self
-        requires { holds z }
-        ensures { whole result ≡ z };
+        requires { Self.fits z }
+        ensures { Self.value result ≡ z };
+
+    // Values that stand for one whole number are the same.
+    ghost same_law: { (a b : Self) → Self.value a ≡ Self.value b → a ≡ b };
+
+    // A sum that wraps on the way wraps to what the whole sum wraps to.
+    ghost wrap_add_law: { (x y : ℤ) → Self.wrap (Self.wrap x +ℤ y) ≡ Self.wrap (x +ℤ y) };
 }
 
 impl Native for i8 {
-    ghost whole = { λ z. z };
-
-    ghost holds = { FitsSigned w8 };
-
     fn to_whole(self) -> i128 {
         self as i128
     }
@@ -35,13 +34,13 @@ impl Native for i8 {
     fn from_whole(z: i128) -> Self {
         z as i8
     }
+
+    ghost same_law = { λ a b e. e };
+
+    ghost wrap_add_law = { signed-wrap_add w8 };
 }
 
 impl Native for i16 {
-    ghost whole = { λ z. z };
-
-    ghost holds = { FitsSigned w16 };
-
     fn to_whole(self) -> i128 {
         self as i128
     }
@@ -49,13 +48,13 @@ impl Native for i16 {
     fn from_whole(z: i128) -> Self {
         z as i16
     }
+
+    ghost same_law = { λ a b e. e };
+
+    ghost wrap_add_law = { signed-wrap_add w16 };
 }
 
 impl Native for i32 {
-    ghost whole = { λ z. z };
-
-    ghost holds = { FitsSigned w32 };
-
     fn to_whole(self) -> i128 {
         self as i128
     }
@@ -63,13 +62,13 @@ impl Native for i32 {
     fn from_whole(z: i128) -> Self {
         z as i32
     }
+
+    ghost same_law = { λ a b e. e };
+
+    ghost wrap_add_law = { signed-wrap_add w32 };
 }
 
 impl Native for i64 {
-    ghost whole = { λ z. z };
-
-    ghost holds = { FitsSigned w64 };
-
     fn to_whole(self) -> i128 {
         self as i128
     }
@@ -77,13 +76,13 @@ impl Native for i64 {
     fn from_whole(z: i128) -> Self {
         z as i64
     }
+
+    ghost same_law = { λ a b e. e };
+
+    ghost wrap_add_law = { signed-wrap_add w64 };
 }
 
 impl Native for i128 {
-    ghost whole = { λ z. z };
-
-    ghost holds = { FitsSigned w128 };
-
     fn to_whole(self) -> i128 {
         self
     }
@@ -91,13 +90,13 @@ impl Native for i128 {
     fn from_whole(z: i128) -> Self {
         z
     }
+
+    ghost same_law = { λ a b e. e };
+
+    ghost wrap_add_law = { signed-wrap_add w128 };
 }
 
 impl Native for u8 {
-    ghost whole = { λ n. pos n };
-
-    ghost holds = { FitsUnsigned w8 };
-
     fn to_whole(self) -> i128 {
         self as i128
     }
@@ -105,13 +104,13 @@ impl Native for u8 {
     fn from_whole(z: i128) -> Self {
         z as u8
     }
+
+    ghost same_law = { λ a b e. ap unsigned_abs e };
+
+    ghost wrap_add_law = { unsigned-wrap_add 8 };
 }
 
 impl Native for u16 {
-    ghost whole = { λ n. pos n };
-
-    ghost holds = { FitsUnsigned w16 };
-
     fn to_whole(self) -> i128 {
         self as i128
     }
@@ -119,13 +118,13 @@ impl Native for u16 {
     fn from_whole(z: i128) -> Self {
         z as u16
     }
+
+    ghost same_law = { λ a b e. ap unsigned_abs e };
+
+    ghost wrap_add_law = { unsigned-wrap_add 16 };
 }
 
 impl Native for u32 {
-    ghost whole = { λ n. pos n };
-
-    ghost holds = { FitsUnsigned w32 };
-
     fn to_whole(self) -> i128 {
         self as i128
     }
@@ -133,13 +132,13 @@ impl Native for u32 {
     fn from_whole(z: i128) -> Self {
         z as u32
     }
+
+    ghost same_law = { λ a b e. ap unsigned_abs e };
+
+    ghost wrap_add_law = { unsigned-wrap_add 32 };
 }
 
 impl Native for u64 {
-    ghost whole = { λ n. pos n };
-
-    ghost holds = { FitsUnsigned w64 };
-
     fn to_whole(self) -> i128 {
         self as i128
     }
@@ -147,4 +146,8 @@ impl Native for u64 {
     fn from_whole(z: i128) -> Self {
         z as u64
     }
+
+    ghost same_law = { λ a b e. ap unsigned_abs e };
+
+    ghost wrap_add_law = { unsigned-wrap_add 64 };
 }

@@ -1,7 +1,7 @@
 //! Arrays of numbers, of which some may be null.
 ghost use Rattle.std.specs.Prelude.{◌≡◌, ◌<◌, ◌≤◌, ◌+◌, Bool, [], ◌∷◌, ◌++◌, Some, true, false, length, map, take, drop, OnOk, OnErr, IfOk, IfSome, MatchOption, option_and_then, slice_index_or, slice_get};
 ghost use Rattle.std.specs.List.{All};
-ghost use Rattle.col_arrays.specs.Items.{item_of, stored, presence, all_present, nulls, marked};
+ghost use Rattle.col_arrays.specs.Items.{item_of, stored, presence, all_present, nulls, with_validity, AreNumbers};
 
 use crate::IdxSize;
 use crate::bitmap::Bitmap;
@@ -13,12 +13,12 @@ use std::marker::Model;
 /// Numbers, of which some may be null. Contracts see a list of items: the number that is
 /// stored, also under a null, and whether it is present.
 #[derive(Debug, Drop)]
-pub struct PrimitiveArray<T> {
+pub struct PrimitiveArray<T: Native> {
     stored: Vec<T>,
     validity: Validity,
 }
 
-impl<T> Model for PrimitiveArray<T> {
+impl<T: Native> Model for PrimitiveArray<T> {
     ghost use Rattle.std.specs.Prelude.{◌≡◌, List, Bool, length};
     ghost use Rattle.std.specs.List.{zip};
     ghost use Rattle.std.specs.Coded.{coded_list, coded×, coded_bool};
@@ -27,12 +27,14 @@ impl<T> Model for PrimitiveArray<T> {
 
     ghost coded = { coded_list (coded× T.code coded_bool) };
 
+    ghost use Rattle.col_arrays.specs.Items.{AreNumbers};
+
     ghost view = { λ a. zip a.stored.items a.validity };
 
-    ghost invariant = { λ a. length a.validity ≡ length a.stored.items };
+    ghost invariant = { λ a. (length a.validity ≡ length a.stored.items) × AreNumbers T.value T.fits a.stored.items };
 }
 
-impl<T: Copy> PrimitiveArray<T> {
+impl<T: Native> PrimitiveArray<T> {
     /// No items yet.
     pub fn new(alloc: Global) -> Self
         ensures { result ≡ [] }
@@ -48,6 +50,7 @@ impl<T: Copy> PrimitiveArray<T> {
     pub fn from_vec(values: Vec<T>) -> Self
         ensures { result ≡ all_present values.items }
     {
+        know_numbers(&values);
         let validity = Validity::new(None, values.len());
         PrimitiveArray {
             stored: values,
@@ -58,8 +61,8 @@ impl<T: Copy> PrimitiveArray<T> {
     /// The same values, null where the bit of `validity` is not set. Without a bitmap none is null.
     #[tactic(auto, using(crate::proofs::Items::views))]
     pub fn with_validity(self, validity: Option<Bitmap>) -> Self
-        requires { IfSome validity (λ marks. length marks ≡ length self) }
-        ensures { result ≡ marked self validity }
+        requires { IfSome validity (λ bits. length bits ≡ length self) }
+        ensures { result ≡ with_validity self validity }
     {
         let PrimitiveArray {
             stored,
@@ -72,15 +75,16 @@ impl<T: Copy> PrimitiveArray<T> {
     /// Which items are present: `None` only where no item is null.
     #[tactic(auto, using(crate::proofs::Items::views))]
     pub fn validity(&self) -> Option<&Bitmap>
-        ensures { MatchOption result (All (λ item. item.1 ≡ true) self.now) (λ marks. marks.now ≡ presence self.now) }
+        ensures { MatchOption result (All (λ item. item.1 ≡ true) self.now) (λ bits. bits.now ≡ presence self.now) }
     {
-        self.validity.marks()
+        self.validity.bits()
     }
 
     /// The number of items, nulls among them.
     #[tactic(auto, using(crate::proofs::Items::views))]
     pub fn len(&self) -> usize
-        ensures { result ≡ length self.now }
+        ensures len { result ≡ length self.now }
+        ensures numbers { AreNumbers T.value T.fits (stored self.now) }
     {
         self.stored.len()
     }
@@ -96,7 +100,8 @@ impl<T: Copy> PrimitiveArray<T> {
     /// What is stored, under nulls too.
     #[tactic(auto, using(crate::proofs::Items::views))]
     pub fn values(&self) -> &[T]
-        ensures { result.now ≡ stored self.now }
+        ensures values { result.now ≡ stored self.now }
+        ensures numbers { AreNumbers T.value T.fits result.now }
     {
         &self.stored
     }
@@ -132,6 +137,7 @@ impl<T: Copy> PrimitiveArray<T> {
         ensures err { OnErr result (self.new ≡ self.old) }
     {
         let alloc = *self.stored.allocator();
+        let _number = value.to_whole();
         self.stored.reserve(1)?;
         self.validity.push(alloc, present)?;
         self.stored.push_reserved(value);
@@ -160,15 +166,23 @@ impl<T: Copy> PrimitiveArray<T> {
         }
         Ok(self)
     }
-}
 
-impl<T: Native> PrimitiveArray<T> {
     /// Appends a null, under which 0 is stored. After `Err` the array is as it was.
     pub fn push_null(&mut self) -> Result<(), AllocError>
         ensures ok { OnOk result (self.new ≡ self.old ++ (T.zero, false) ∷ []) }
         ensures err { OnErr result (self.new ≡ self.old) }
     {
         self.push(T::zero(), false)
+    }
+}
+
+/// Tells that values are numbers of their type. The loop has no effect, and none is compiled.
+#[inline(always)]
+fn know_numbers<T: Native>(values: &[T])
+    ensures { AreNumbers T.value T.fits values.now }
+{
+    for value in values {
+        let _number = value.to_whole();
     }
 }
 

@@ -13,8 +13,8 @@ use Rattle.join_request.specs.declared.error.RequestError.TheVariants as request
 use Rattle.join_request.specs.declared.reader.Request.{Request as Command}
 use Rattle.join_request.specs.Request.{request_of}
 use Rattle.join_model.specs.Refusals.{refusal_of}
-use Rattle.join_model.specs.declared.error.QueryError.{QueryError}
-use Rattle.join_model.specs.declared.error.QueryError.TheVariants as queries
+use Rattle.join_query.specs.declared.error.QueryError.{QueryError}
+use Rattle.join_query.specs.declared.error.QueryError.TheVariants as queries
 use Rattle.join_command.specs.declared.error.ToolError.{ToolError}
 use Rattle.join_command.specs.declared.error.ToolError.TheVariants.{Usage, ReadFault, TooLong, Request, Query, WriteFault, TextFault, Memory}
 use Rattle.join_command.specs.Errors.{status_of, error_of_read, error_of_request, error_of_query}

@@ -4,8 +4,8 @@ use Rattle.byte_streams.specs.declared.whole.ReadError.{ReadError}
 use Rattle.byte_streams.specs.declared.whole.ReadError.TheVariants as reads
 use Rattle.join_request.specs.declared.error.RequestError.{RequestError}
 use Rattle.join_request.specs.declared.error.RequestError.TheVariants as requests
-use Rattle.join_model.specs.declared.error.QueryError.{QueryError}
-use Rattle.join_model.specs.declared.error.QueryError.TheVariants as queries
+use Rattle.join_query.specs.declared.error.QueryError.{QueryError}
+use Rattle.join_query.specs.declared.error.QueryError.TheVariants as queries
 use Rattle.table_text.specs.declared.error.TextError.{TextError}
 use Rattle.table_text.specs.declared.error.TextError.TheVariants as texts
 use Rattle.join_command.specs.declared.error.ToolError.{ToolError}

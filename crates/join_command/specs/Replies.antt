@@ -4,7 +4,7 @@ use Rattle.join_request.specs.declared.error.RequestError.{RequestError}
 use Rattle.join_request.specs.declared.reader.Request.{Request}
 use Rattle.join_request.specs.Request.{request_of}
 use Rattle.join_model.specs.Answers.{answer_rows, answer_groups}
-use Rattle.join_model.specs.declared.error.QueryError.{QueryError}
+use Rattle.join_query.specs.declared.error.QueryError.{QueryError}
 use Rattle.join_model.specs.Refusals.{refusal_of}
 use Rattle.join_text.specs.Text.{answer_text_of}
 use Rattle.join_command.specs.declared.error.ToolError.{ToolError}

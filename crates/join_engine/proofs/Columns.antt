@@ -12,12 +12,12 @@ use Rattle.col_core.specs.declared.data_type.DataType.{DataType}
 use Rattle.col_core.specs.declared.data_type.DataType.TheVariants.{Binary}
 use Rattle.col_core.specs.Schemas.{field_position, type_named}
 use Rattle.col_core.specs.Tables.{header, Column}
-use Rattle.join_model.specs.declared.query.Query.{Query}
-use Rattle.join_model.specs.declared.query.Side.TheVariants as sides
-use Rattle.join_model.specs.declared.query.ColumnRef.{ColumnRef}
-use Rattle.join_model.specs.Filtered.{schema_of}
-use Rattle.join_model.specs.Groups.{ref_type}
-use Rattle.join_model.specs.Answers.{prefixed, joined_schema, side_prefix}
+use Rattle.join_query.specs.declared.query.Query.{Query}
+use Rattle.join_query.specs.declared.query.Side.TheVariants as sides
+use Rattle.join_query.specs.declared.query.ColumnRef.{ColumnRef}
+use Rattle.join_model.specs.Answers.{prefixed, joined_schema}
+use Rattle.join_model.specs.ColumnRefs.{schema_of, ref_type}
+use Rattle.join_query.specs.Names.{side_prefix}
 use Rattle.join_engine.specs.Places.{field_at, no_field}
 use Rattle.join_engine.proofs.Gathered.{field_found}
 
@@ -47,14 +47,14 @@ position_is_some name fields h =
     rw inside refl
 
 -- the type of a column of the joined schema, by its side's schema
-left_type : (front back : List ℕ) (ps bs : List Field) (i : ℕ) → i < length ps → (field_at (prefixed front ps ++ prefixed back bs) i).dtype ≡ (field_at ps i).dtype
-left_type front back ps bs i h =
+probe_field_type : (front back : List ℕ) (ps bs : List Field) (i : ℕ) → i < length ps → (field_at (prefixed front ps ++ prefixed back bs) i).dtype ≡ (field_at ps i).dtype
+probe_field_type front back ps bs i h =
     let named : Field → Field = λ f. record { name = front ++ f.name; dtype = f.dtype } in
     let inside : i < length (map named ps) = rw (length-map ps named) h in
     ap (λ (f : Field). f.dtype) (get_or_append_left (map named ps) (prefixed back bs) no_field i inside) ∙ ap (λ (f : Field). f.dtype) (get_or-map named ps i no_field no_field h)
 
-right_type : (front back : List ℕ) (ps bs : List Field) (i : ℕ) → i < length bs → (field_at (prefixed front ps ++ prefixed back bs) (length ps + i)).dtype ≡ (field_at bs i).dtype
-right_type front back ps bs i h =
+build_field_type : (front back : List ℕ) (ps bs : List Field) (i : ℕ) → i < length bs → (field_at (prefixed front ps ++ prefixed back bs) (length ps + i)).dtype ≡ (field_at bs i).dtype
+build_field_type front back ps bs i h =
     let named : Field → Field = λ f. record { name = back ++ f.name; dtype = f.dtype } in
     let past : length ps + i - length ps ≡ i = omega arith in
     ap (λ (f : Field). f.dtype) (get_or-append_right (prefixed front ps) (map named bs) (length ps) (length ps + i) no_field (length-map ps (λ (f : Field). record { name = front ++ f.name; dtype = f.dtype })) (omega arith))
@@ -69,7 +69,7 @@ type_referred q ref schema i place c side at same found =
     ∙ sym (ap (λ (o : Option DataType). option_map_or (λ t. t) o Binary) (ap (type_named ref.name) side ∙ type_at_position ref.name schema i at))
 
 pub probe_type : (q : Query) (ref : ColumnRef) (i : ℕ) (c : Column) → ref.side ≡ sides.Probe → field_position ref.name q.probe_schema ≡ Some i → slice_get (joined_schema q) i ≡ Some (header c) → c.dtype ≡ ref_type q ref
-probe_type q ref i c side at found = type_referred q ref q.probe_schema i i c (ap (schema_of q) side) at (left_type (side_prefix sides.Probe) (side_prefix sides.Build) q.probe_schema q.build_schema i (position-Some (λ (f : Field). bytes_eq f.name ref.name) q.probe_schema i no_field at).0) found
+probe_type q ref i c side at found = type_referred q ref q.probe_schema i i c (ap (schema_of q) side) at (probe_field_type (side_prefix sides.Probe) (side_prefix sides.Build) q.probe_schema q.build_schema i (position-Some (λ (f : Field). bytes_eq f.name ref.name) q.probe_schema i no_field at).0) found
 
 pub build_type : (q : Query) (ref : ColumnRef) (i : ℕ) (c : Column) → ref.side ≡ sides.Build → field_position ref.name q.build_schema ≡ Some i → slice_get (joined_schema q) (length q.probe_schema + i) ≡ Some (header c) → c.dtype ≡ ref_type q ref
-build_type q ref i c side at found = type_referred q ref q.build_schema i (length q.probe_schema + i) c (ap (schema_of q) side) at (right_type (side_prefix sides.Probe) (side_prefix sides.Build) q.probe_schema q.build_schema i (position-Some (λ (f : Field). bytes_eq f.name ref.name) q.build_schema i no_field at).0) found
+build_type q ref i c side at found = type_referred q ref q.build_schema i (length q.probe_schema + i) c (ap (schema_of q) side) at (build_field_type (side_prefix sides.Probe) (side_prefix sides.Build) q.probe_schema q.build_schema i (position-Some (λ (f : Field). bytes_eq f.name ref.name) q.build_schema i no_field at).0) found

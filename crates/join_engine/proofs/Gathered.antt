@@ -11,7 +11,8 @@ use Rattle.col_core.specs.declared.leaf.Leaf.TheVariants as leaves
 use Rattle.col_core.specs.declared.schema.Field.{Field}
 use Rattle.col_core.specs.Values.{value_at}
 use Rattle.col_core.specs.Tables.{Row, Table, Column, rows_from, header, values_of}
-use Rattle.col_core.proofs.Rows.{transposed, map_agree, map_agree_on}
+use Rattle.list_laws.proofs.Maps.{map_agree, map_agree_on}
+use Rattle.col_core.proofs.Rows.{transposed}
 use Rattle.join_model.specs.Answers.{prefixed}
 use Rattle.join_engine.specs.declared.places.RowPlace.{RowPlace}
 use Rattle.join_engine.specs.declared.pairs.Pair.{Pair}
@@ -50,38 +51,38 @@ wide_at : (schema : List Field) (frames : List Table) (place : RowPlace) → All
 wide_at schema frames place have inside = inside.width ∙ ap length (All-get_or (λ (t : Table). t.schema ≡ schema) frames place.frame no_table inside.frame have)
 
 -- the places of pairs, side by side
-pub left_places : (P B : List Table) (pairs : List Pair) → All (IsPair P B) pairs → All (IsPlace P) (map (λ (pr : Pair). pr.probe) pairs)
-left_places P B pairs inside = All-map (IsPlace P) (λ (pr : Pair). pr.probe) pairs (All-weaker (IsPair P B) (λ (pr : Pair). IsPlace P pr.probe) (λ pr h. h.probe_place) pairs inside)
+pub probe_inside : (P B : List Table) (pairs : List Pair) → All (IsPair P B) pairs → All (IsPlace P) (map (λ (pr : Pair). pr.probe) pairs)
+probe_inside P B pairs inside = All-map (IsPlace P) (λ (pr : Pair). pr.probe) pairs (All-weaker (IsPair P B) (λ (pr : Pair). IsPlace P pr.probe) (λ pr h. h.probe_place) pairs inside)
 
-pub right_places : (P B : List Table) (pairs : List Pair) → All (IsPair P B) pairs → All (IsPlace B) (map (λ (pr : Pair). pr.build) pairs)
-right_places P B pairs inside = All-map (IsPlace B) (λ (pr : Pair). pr.build) pairs (All-weaker (IsPair P B) (λ (pr : Pair). IsPlace B pr.build) (λ pr h. h.build_place) pairs inside)
+pub build_inside : (P B : List Table) (pairs : List Pair) → All (IsPair P B) pairs → All (IsPlace B) (map (λ (pr : Pair). pr.build) pairs)
+build_inside P B pairs inside = All-map (IsPlace B) (λ (pr : Pair). pr.build) pairs (All-weaker (IsPair P B) (λ (pr : Pair). IsPlace B pr.build) (λ pr h. h.build_place) pairs inside)
 
 -- the columns of both sides, gathered at the places of pairs
 module _ (P B : List Table) (ps bs : List Field) (pairs : List Pair) (front back : List ℕ) where
-  abbrev lefts : List RowPlace
-  lefts = map (λ (pr : Pair). pr.probe) pairs
+  abbrev probe_places : List RowPlace
+  probe_places = map (λ (pr : Pair). pr.probe) pairs
 
-  abbrev rights : List RowPlace
-  rights = map (λ (pr : Pair). pr.build) pairs
+  abbrev build_places : List RowPlace
+  build_places = map (λ (pr : Pair). pr.build) pairs
 
   abbrev pub both : List Column
-  both = gathered front ps P lefts ++ gathered back bs B rights
+  both = gathered front ps P probe_places ++ gathered back bs B build_places
 
   pub long_both : All (λ (c : Column). length c.values ≡ length pairs) both
   long_both =
       let Long : ℕ → Column → Type 0 = λ n c. length c.values ≡ n in
-      All-append (Long (length pairs)) (gathered front ps P lefts) (gathered back bs B rights)
-      (subst (λ (n : ℕ). All (Long n) (gathered front ps P lefts)) (length-map pairs (λ (pr : Pair). pr.probe)) (long_gathered front ps P lefts))
-      (subst (λ (n : ℕ). All (Long n) (gathered back bs B rights)) (length-map pairs (λ (pr : Pair). pr.build)) (long_gathered back bs B rights))
+      All-append (Long (length pairs)) (gathered front ps P probe_places) (gathered back bs B build_places)
+      (subst (λ (n : ℕ). All (Long n) (gathered front ps P probe_places)) (length-map pairs (λ (pr : Pair). pr.probe)) (long_gathered front ps P probe_places))
+      (subst (λ (n : ℕ). All (Long n) (gathered back bs B build_places)) (length-map pairs (λ (pr : Pair). pr.build)) (long_gathered back bs B build_places))
 
-  abbrev left : ℕ → Pair → Leaf
-  left c pr = value_at (row_of P pr.probe) c
+  abbrev probe_value : ℕ → Pair → Leaf
+  probe_value c pr = value_at (row_of P pr.probe) c
 
-  abbrev right : ℕ → Pair → Leaf
-  right c pr = value_at (row_of B pr.build) c
+  abbrev build_value : ℕ → Pair → Leaf
+  build_value c pr = value_at (row_of B pr.build) c
 
   abbrev readers : List (Pair → Leaf)
-  readers = map left (range_with_len 0 (length ps)) ++ map right (range_with_len 0 (length bs))
+  readers = map probe_value (range_with_len 0 (length ps)) ++ map build_value (range_with_len 0 (length bs))
 
   -- one side's values, pair by pair
   values_side : (frames : List Table) (side : Pair → RowPlace) (prefix : List ℕ) (schema : List Field)
@@ -95,8 +96,8 @@ module _ (P B : List Table) (ps bs : List Field) (pairs : List Pair) (front back
   values_both =
       let l = values_side P (λ (pr : Pair). pr.probe) front ps in
       let r = values_side B (λ (pr : Pair). pr.build) back bs in
-      map-append (λ (c : Column). c.values) (gathered front ps P lefts) (gathered back bs B rights)
-      ∙ rw (l, r) (sym (map-append (λ (f : Pair → Leaf). map f pairs) (map left (range_with_len 0 (length ps))) (map right (range_with_len 0 (length bs)))))
+      map-append (λ (c : Column). c.values) (gathered front ps P probe_places) (gathered back bs B build_places)
+      ∙ rw (l, r) (sym (map-append (λ (f : Pair → Leaf). map f pairs) (map probe_value (range_with_len 0 (length ps))) (map build_value (range_with_len 0 (length bs)))))
 
   -- the joined columns are the pairs' rows
   pub rows_both : AllHave ps P → AllHave bs B → All (IsPair P B) pairs → rows_from (length pairs) (values_of both) ≡ map (pair_row P B) pairs
@@ -106,18 +107,18 @@ module _ (P B : List Table) (ps bs : List Field) (pairs : List Pair) (front back
       each k d l =
           let pr = get_or pairs k d in
           let is = All-get_or (IsPair P B) pairs k d l inside in
-          map-append (λ (f : Pair → Leaf). f pr) (map left (range_with_len 0 (length ps))) (map right (range_with_len 0 (length bs)))
-          ∙ ap (λ (xs : List Leaf). xs ++ map (λ (f : Pair → Leaf). f pr) (map right (range_with_len 0 (length bs)))) (map-map (λ (f : Pair → Leaf). f pr) left (range_with_len 0 (length ps)) ∙ row_whole (row_of P pr.probe) (length ps) (wide_at ps P pr.probe have_p is.probe_place))
-          ∙ ap (λ (xs : List Leaf). row_of P pr.probe ++ xs) (map-map (λ (f : Pair → Leaf). f pr) right (range_with_len 0 (length bs)) ∙ row_whole (row_of B pr.build) (length bs) (wide_at bs B pr.build have_b is.build_place))
+          map-append (λ (f : Pair → Leaf). f pr) (map probe_value (range_with_len 0 (length ps))) (map build_value (range_with_len 0 (length bs)))
+          ∙ ap (λ (xs : List Leaf). xs ++ map (λ (f : Pair → Leaf). f pr) (map build_value (range_with_len 0 (length bs)))) (map-map (λ (f : Pair → Leaf). f pr) probe_value (range_with_len 0 (length ps)) ∙ row_whole (row_of P pr.probe) (length ps) (wide_at ps P pr.probe have_p is.probe_place))
+          ∙ ap (λ (xs : List Leaf). row_of P pr.probe ++ xs) (map-map (λ (f : Pair → Leaf). f pr) build_value (range_with_len 0 (length bs)) ∙ row_whole (row_of B pr.build) (length bs) (wide_at bs B pr.build have_b is.build_place))
 
   -- the headers of both sides
   pub headers_both : map header both ≡ prefixed front ps ++ prefixed back bs
-  headers_both = map-append header (gathered front ps P lefts) (gathered back bs B rights)
-      ∙ ap (λ (fs : List Field). fs ++ map header (gathered back bs B rights)) (headers_gathered front ps P lefts)
-      ∙ ap (λ (fs : List Field). prefixed front ps ++ fs) (headers_gathered back bs B rights)
+  headers_both = map-append header (gathered front ps P probe_places) (gathered back bs B build_places)
+      ∙ ap (λ (fs : List Field). fs ++ map header (gathered back bs B build_places)) (headers_gathered front ps P probe_places)
+      ∙ ap (λ (fs : List Field). prefixed front ps ++ fs) (headers_gathered back bs B build_places)
 
   -- columns appended side by side are those of both sides
-  pub both_appended : (ls rs : List RowPlace) (new first all : List Column) → ls ≡ lefts → rs ≡ rights → new ≡ [] → first ≡ new ++ gathered front ps P ls → all ≡ first ++ gathered back bs B rs → all ≡ both
+  pub both_appended : (ls rs : List RowPlace) (new first all : List Column) → ls ≡ probe_places → rs ≡ build_places → new ≡ [] → first ≡ new ++ gathered front ps P ls → all ≡ first ++ gathered back bs B rs → all ≡ both
   both_appended ls rs new first all l r n f a =
       a ∙ ap (λ (cs : List Column). cs ++ gathered back bs B rs) (f ∙ ap (λ (cs : List Column). cs ++ gathered front ps P ls) n)
       ∙ rw (l, r) refl

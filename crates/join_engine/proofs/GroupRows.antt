@@ -1,5 +1,5 @@
 -- The groups of joined rows under one group key and one sum, from the entries of the rows.
-use Rattle.std.proofs.Common.{◌≡◌, ℕ, ℤ, pos, ◌<◌, Bool, true, false, cond, List, [], ◌∷◌, ◌++◌, map, filter, fold, length, get_or, refl, sym, ap, ◌∙◌, subst, arith}
+use Rattle.std.proofs.Common.{◌≡◌, ℕ, ℤ, pos, ◌<◌, true, false, List, [], ◌∷◌, ◌++◌, map, fold, length, get_or, refl, sym, ap, ◌∙◌, subst, arith}
 use Rattle.std.specs.List.{All}
 use Rattle.std.proofs.lemmas.Bool.{false≢true}
 use Rattle.std.proofs.lemmas.List.{length-map, get_or-map}
@@ -14,24 +14,25 @@ use Rattle.col_core.specs.declared.data_type.DataType.{DataType}
 use Rattle.col_core.specs.declared.data_type.DataType.TheVariants.{Int64}
 use Rattle.col_core.specs.Values.{value_at}
 use Rattle.col_core.specs.Tables.{Row, Table, rows_from}
-use Rattle.col_core.proofs.Equalities.{both}
-use Rattle.col_core.proofs.Rows.{map_agree}
 use Rattle.reduce_model.specs.declared.kind.ReductionKind.{ReductionKind}
 use Rattle.reduce_model.specs.declared.kind.ReductionKind.TheVariants.{Sum}
 use Rattle.reduce_model.specs.Folds.{fold_of, add_value, reduced_type}
 use Rattle.list_laws.specs.Distinct.{distinct}
+use Rattle.list_laws.proofs.Halves.{both}
+use Rattle.list_laws.proofs.Maps.{map_agree}
+use Rattle.list_laws.proofs.Filters.{filter-map}
 use Rattle.list_laws.proofs.Distinct.{all_distinct}
-use Rattle.join_model.specs.declared.query.Query.{Query}
-use Rattle.join_model.specs.declared.query.ColumnRef.{ColumnRef}
-use Rattle.join_model.specs.declared.query.Reduction.{Reduction}
+use Rattle.join_query.specs.declared.query.Query.{Query}
+use Rattle.join_query.specs.declared.query.ColumnRef.{ColumnRef}
+use Rattle.join_query.specs.declared.query.Reduction.{Reduction}
 use Rattle.join_model.specs.Keys.{tuple_eq}
-use Rattle.join_model.specs.Filtered.{ref_value}
-use Rattle.join_model.specs.Groups.{ref_type, group_key, group_keys, members_of, reduced, group_row, group_rows}
-use Rattle.join_model.specs.Answers.{ref_name, kind_prefix, key_field, reduction_field, group_schema}
+use Rattle.join_model.specs.Groups.{group_key, group_keys, members_of, reduced, group_row, group_rows}
+use Rattle.join_model.specs.Answers.{reduction_name, key_field, reduction_field, group_schema}
 use Rattle.join_model.proofs.Decides.{tuple_eq-Decides}
 use Rattle.join_engine.specs.declared.totals.Entry.{Entry}
 use Rattle.join_engine.specs.Totals.{keys_of, total_of, add_entry, entry_at, entries_of, totals_table}
 use Rattle.join_model.specs.Refusals.{is_int64, is_sum, is_one_sum}
+use Rattle.join_model.specs.ColumnRefs.{ref_value, ref_type, ref_name}
 use Rattle.join_engine.specs.Simple.{is_one_column}
 use Rattle.join_engine.proofs.Grouped.{keyed_rows}
 
@@ -63,13 +64,6 @@ one_sum q (x ∷ []) r h e =
       dtype = ap (λ (y : Reduction). ref_type q y.column) e ∙ int64_is (ref_type q x.column) halves.1;
     }
 one_sum q (x ∷ y ∷ rs) r h e = absurd (false≢true h)
-
-filter-map : {A B : Type 0} (t : B → Bool) (f : A → B) (xs : List A) → filter t (map f xs) ≡ map f (filter (λ x. t (f x)) xs)
-filter-map t f [] = refl
-filter-map {A} {B} t f (x ∷ xs) = elim (t (f x)) as (λ v. cond v (f x ∷ filter t (map f xs)) (filter t (map f xs)) ≡ map f (cond v (x ∷ filter (λ y. t (f y)) xs) (filter (λ y. t (f y)) xs))) [
-  | true ↦ ap (λ (r : List B). f x ∷ r) (filter-map t f xs)
-  | false ↦ filter-map t f xs
-]
 
 module _ (q : Query) (g : ColumnRef) (r : Reduction) (groups : q.group_keys ≡ g ∷ []) (sums : IsOneSum q q.reductions r) (rows : List Row) where
   abbrev entry : Row → Entry
@@ -117,11 +111,11 @@ module _ (q : Query) (g : ColumnRef) (r : Reduction) (groups : q.group_keys ≡ 
   rows_are : map (λ k. k ++ leaves.Whole (total_of (map entry rows) k) ∷ []) (group_keys q rows) ≡ group_rows q rows
   rows_are = map_agree (λ k. k ++ leaves.Whole (total_of (map entry rows) k) ∷ []) (group_row q rows) (λ k. ap (λ (z : ℤ). k ++ leaves.Whole z ∷ []) (total_is k) ∙ ap (λ (xs : List Leaf). k ++ xs) (sym (reduced_is k))) (group_keys q rows)
 
-  schema_is : (key sum : List ℕ) (t : DataType) → key ≡ ref_name g → t ≡ ref_type q g → sum ≡ kind_prefix r.kind ++ ref_name r.column ++ (41 ∷ [])
+  schema_is : (key sum : List ℕ) (t : DataType) → key ≡ ref_name g → t ≡ ref_type q g → sum ≡ reduction_name r
       → record { name = key; dtype = t } ∷ record { name = sum; dtype = Int64 } ∷ [] ≡ group_schema q
   schema_is key sum t k e s =
       let field : List ℕ → DataType → Field = λ name dtype. record { name = name; dtype = dtype } in
-      let summed = kind_prefix r.kind ++ ref_name r.column ++ (41 ∷ []) in
+      let summed = reduction_name r in
       let int64 : Int64 ≡ reduced_type r.kind (ref_type q r.column) = sym (ap (λ kind. reduced_type kind (ref_type q r.column)) sums.kind ∙ ap (reduced_type Sum) sums.dtype) in
       ap (λ n. field n t ∷ field sum Int64 ∷ []) k ∙ ap (λ u. field (ref_name g) u ∷ field sum Int64 ∷ []) e
       ∙ ap (λ n. field (ref_name g) (ref_type q g) ∷ field n Int64 ∷ []) s ∙ ap (λ u. field (ref_name g) (ref_type q g) ∷ field summed u ∷ []) int64
@@ -129,7 +123,7 @@ module _ (q : Query) (g : ColumnRef) (r : Reduction) (groups : q.group_keys ≡ 
 
   -- the keys and the totals as a table
   pub table_is : (es : List Entry) (ks : List (List Leaf)) (ts : List ℤ) (key sum : List ℕ) (t : DataType) → es ≡ entries_of keys values → ks ≡ keys_of es → ts ≡ map (total_of es) (keys_of es)
-      → key ≡ ref_name g → t ≡ ref_type q g → sum ≡ kind_prefix r.kind ++ ref_name r.column ++ (41 ∷ [])
+      → key ≡ ref_name g → t ≡ ref_type q g → sum ≡ reduction_name r
       → totals_table (record { name = key; dtype = t }) sum ks ts ≡ record { schema = group_schema q; rows = group_rows q rows }
   table_is es ks ts key sum t e k u n d s =
       let table : List Field → List Row → Table = λ schema rs. record { schema = schema; rows = rs } in

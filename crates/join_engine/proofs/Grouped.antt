@@ -7,7 +7,8 @@ use Rattle.col_core.specs.declared.leaf.Leaf.TheVariants as leaves
 use Rattle.col_core.specs.declared.data_type.DataType.{DataType}
 use Rattle.col_core.specs.Values.{value_at, Fits}
 use Rattle.col_core.specs.Tables.{rows_from}
-use Rattle.col_core.proofs.Rows.{transposed, map_agree_on}
+use Rattle.col_core.proofs.Rows.{transposed}
+use Rattle.list_laws.proofs.Maps.{map_agree_on}
 use Rattle.std.proofs.lemmas.List.{map-append, get_or-map}
 use Rattle.col_core.specs.declared.leaf.Leaf.{Leaf}
 use Rattle.join_model.specs.Keys.{tuple_eq}

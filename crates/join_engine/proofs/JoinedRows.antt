@@ -4,11 +4,12 @@ use Rattle.std.specs.List.{All, flat_map, list_any}
 use Rattle.std.proofs.lemmas.Bool.{lt-ltb, le-ltb}
 use Rattle.std.proofs.lemmas.List.{map-append, append-nil, length-map}
 use Rattle.std.proofs.lemmas.List.Elements.{All-map, All-append, All-filter, All-weaker, All-head, All-tail, All-nil}
+use Rattle.list_laws.proofs.Filters.{filter-none, filter-all}
 use Rattle.col_core.specs.declared.leaf.Leaf.{Leaf}
 use Rattle.col_core.specs.declared.schema.Field.{Field}
 use Rattle.col_core.specs.Values.{value_at, is_null}
 use Rattle.col_core.specs.Tables.{Row, Table}
-use Rattle.join_model.specs.declared.query.Query.{Query}
+use Rattle.join_query.specs.declared.query.Query.{Query}
 use Rattle.join_model.specs.Keys.{leaf_eq, tuple, joins}
 use Rattle.join_model.specs.Joined.{rows_of, rows_join, with_partners, rows_of_probe, is_outer, nulls, joined_rows}
 use Rattle.join_model.specs.Filtered.{passes}
@@ -31,17 +32,9 @@ partners : (keep : Bool) (schema : List Field) (p : Row) (bs : List Row) → kee
 partners keep schema p [] h = ap (λ (k : Bool). cond k ((p ++ nulls schema) ∷ []) []) h
 partners keep schema p (b ∷ bs) h = refl
 
-filter_none : {A : Type 0} (t : A → Bool) → ((a : A) → t a ≡ false) → (xs : List A) → filter t xs ≡ []
-filter_none t h [] = refl
-filter_none t h (x ∷ xs) = rw (h x) (filter_none t h xs)
-
-filter_all : {A : Type 0} (t : A → Bool) → ((a : A) → t a ≡ true) → (xs : List A) → filter t xs ≡ xs
-filter_all t h [] = refl
-filter_all {A} t h (x ∷ xs) = rw (h x) (ap (λ (r : List A). x ∷ r) (filter_all t h xs))
-
 -- without a filter all rows are kept
 pub all_kept : (q : Query) (rows : List Row) → q.filter ≡ None → filter (passes q) rows ≡ rows
-all_kept q rows h = filter_all (passes q) (λ row. rw h refl) rows
+all_kept q rows h = filter-all (passes q) (λ row. rw h refl) rows
 
 module _ (q : Query) (B P : List Table) (simple : IsSimple q B P) (bs ps : List Keyed) (build : IsKeyedSide q.build_schema q.build_keys B bs) (probe : IsKeyedSide q.probe_schema q.probe_keys P ps) where
   abbrev build_row : RowPlace → Keyed
@@ -89,7 +82,7 @@ module _ (q : Query) (B P : List Table) (simple : IsSimple q B P) (bs ps : List 
       ∙ ap (flat_map (rows_of_probe q (rows_of B))) probe.whole
       ∙ sym (append-nil (flat_map (rows_of_probe q (rows_of B)) (rows_of P)))
       ∙ ap (λ (r : List Row). flat_map (rows_of_probe q (rows_of B)) (rows_of P) ++ map (λ (b : Row). nulls q.probe_schema ++ b) r)
-      (sym (filter_none (is_outer q (rows_of P)) (λ b. ap (λ (k : Bool). k && not (list_any (λ p. rows_join q p b) (rows_of P))) simple.keep_build) (rows_of B)))
+      (sym (filter-none (is_outer q (rows_of P)) (λ b. ap (λ (k : Bool). k && not (list_any (λ p. rows_join q p b) (rows_of P))) simple.keep_build) (rows_of B)))
 
   length_matched : length (matched bs ps) ≡ length (joined_rows q (rows_of B) (rows_of P))
   length_matched = sym (length-map (matched bs ps) (pair_row P B)) ∙ ap length rows_of_matched

@@ -4,7 +4,5 @@ pub mod Gathered
 pub mod Grouped
 pub mod Columns
 pub mod GroupRows
-pub mod Sides
 pub mod Parts
 pub mod JoinedRows
-pub mod FirstPlaces

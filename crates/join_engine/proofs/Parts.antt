@@ -4,21 +4,19 @@ use Rattle.std.specs.Prelude.{IsSome}
 use Rattle.std.specs.Option.{option_map, option_map_or}
 use Rattle.std.proofs.lemmas.Bool.{false≢true}
 use Rattle.std.proofs.lemmas.List.Elements.{All-cons, All-nil}
+use Rattle.list_laws.proofs.Halves.{neither, not-false}
 use Rattle.col_core.specs.declared.schema.Field.{Field}
 use Rattle.col_core.specs.declared.data_type.DataType.{DataType}
 use Rattle.col_core.specs.declared.data_type.DataType.TheVariants.{Binary}
 use Rattle.col_core.specs.Schemas.{type_named, field_position, schema_eq}
 use Rattle.col_core.specs.Tables.{Table}
 use Rattle.col_core.proofs.Equalities.{schema_eq-Decides}
-use Rattle.join_model.specs.declared.error.QueryError.{QueryError}
-use Rattle.join_model.specs.declared.error.QueryError.TheVariants.{NoKeyColumns, UnknownColumn, SchemaMismatch, UnsupportedReduction, UnsupportedFilter, BadPlan, TooLarge, NotBuilt}
-use Rattle.join_model.specs.declared.query.Query.{Query}
-use Rattle.join_model.specs.declared.query.ColumnRef.{ColumnRef}
-use Rattle.join_model.specs.Filtered.{schema_of}
-use Rattle.std.specs.Cmp.Lexicographic.{pointwise}
-use Rattle.col_core.specs.Schemas.{dtype_eq}
-use Rattle.join_model.specs.Groups.{ref_type}
-use Rattle.join_model.specs.Refusals.{types_named, operand_type, is_empty, lacks_keys, unknown_column, repeats_name, has_other_frame, schemas_differ, unsupported_reduction, filter_is_unsupported, is_good_plan, is_int64, is_key_not_built, is_group_type, is_group_not_built, is_one_sum, is_not_built, is_too_large, when, first_of, checked_refusal}
+use Rattle.join_query.specs.declared.error.QueryError.{QueryError}
+use Rattle.join_query.specs.declared.error.QueryError.TheVariants.{NoKeyColumns, UnknownColumn, SchemaMismatch, UnsupportedReduction, UnsupportedFilter, BadPlan, TooLarge, NotBuilt}
+use Rattle.join_query.specs.declared.query.Query.{Query}
+use Rattle.join_query.specs.declared.query.ColumnRef.{ColumnRef}
+use Rattle.join_model.specs.Refusals.{have_same_types, has_mixed_filter, is_empty, lacks_keys, unknown_column, repeats_name, has_other_frame, schemas_differ, unsupported_reduction, filter_is_unsupported, is_good_plan, is_int64, is_key_not_built, is_group_type, is_group_not_built, is_one_sum, is_not_built, is_too_large, when, first_of, checked_refusal}
+use Rattle.join_model.specs.ColumnRefs.{schema_of}
 use Rattle.join_engine.specs.Places.{AllHave}
 use Rattle.join_engine.specs.Simple.{is_one_name, is_one_column, IsSimple}
 use Rattle.join_engine.proofs.Columns.{position_is_some}
@@ -29,20 +27,12 @@ key_is_some schema [] name h e = absurd (false≢true h)
 key_is_some schema (x ∷ []) name h e = rw e (position_is_some x schema h)
 key_is_some schema (x ∷ y ∷ names) name h e = absurd (false≢true h)
 
-either : (a b : Bool) → (a || b) ≡ false → (a ≡ false) × (b ≡ false)
-either true b h = absurd (false≢true (sym h))
-either false b h = (refl, h)
-
-not_false : (b : Bool) → not b ≡ false → b ≡ true
-not_false true h = refl
-not_false false h = absurd (false≢true (sym h))
-
 -- no frame of another schema: each has the schema
 all_have : (schema : List Field) (frames : List Table) → has_other_frame schema frames ≡ false → AllHave schema frames
 all_have schema [] h = All-nil (λ (t : Table). t.schema ≡ schema)
 all_have schema (t ∷ frames) h =
-    let halves = either (not (schema_eq t.schema schema)) (has_other_frame schema frames) h in
-    All-cons (λ (x : Table). x.schema ≡ schema) t frames ((schema_eq-Decides t.schema schema).0 (not_false (schema_eq t.schema schema) halves.0)) (all_have schema frames halves.1)
+    let halves = neither (not (schema_eq t.schema schema)) (has_other_frame schema frames) h in
+    All-cons (λ (x : Table). x.schema ≡ schema) t frames ((schema_eq-Decides t.schema schema).0 (not-false (schema_eq t.schema schema) halves.0)) (all_have schema frames halves.1)
 
 -- a column whose type is none that stands for a missing column
 known_int64 : (o : Option DataType) → (not (is_int64 (option_map_or (λ t. t) o Binary)) || false) ≡ false → is_some o ≡ true
@@ -124,19 +114,19 @@ module _ (q : Query) (build probe : List Table) where
   pub simple_parts : checked_refusal q build probe ≡ None → IsSimple q build probe
   simple_parts h =
       let none = no_cause h in
-      let groups = either (is_empty q.build_keys || is_empty q.probe_keys) (is_empty q.group_keys) none.keys in
-      let keys = either (is_empty q.build_keys) (is_empty q.probe_keys) groups.0 in
-      let mixed = either _ (option_map_or (λ f. not (dtype_eq (ref_type q f.left) (operand_type q f.right))) q.filter false) none.schemas in
-      let types = either _ (not (pointwise dtype_eq (types_named q.build_schema q.build_keys) (types_named q.probe_schema q.probe_keys))) mixed.0 in
-      let probe_frames = either _ (has_other_frame q.probe_schema probe) types.0 in
-      let build_frames = either (repeats_name q.build_schema || repeats_name q.probe_schema) (has_other_frame q.build_schema build) probe_frames.0 in
-      let sum = either _ (not (is_one_sum q q.reductions)) none.built in
-      let group = either _ (is_group_not_built q q.group_keys) sum.0 in
-      let filter = either _ (is_some q.filter) group.0 in
-      let keep_build = either _ q.keep_build filter.0 in
-      let keep_probe = either _ q.keep_probe keep_build.0 in
-      let null_equal = either _ q.null_equal keep_probe.0 in
-      let built_keys = either (is_key_not_built q.build_schema q.build_keys) (is_key_not_built q.probe_schema q.probe_keys) null_equal.0 in
+      let groups = neither (is_empty q.build_keys || is_empty q.probe_keys) (is_empty q.group_keys) none.keys in
+      let keys = neither (is_empty q.build_keys) (is_empty q.probe_keys) groups.0 in
+      let mixed = neither _ (has_mixed_filter q) none.schemas in
+      let types = neither _ (not (have_same_types q.build_schema q.build_keys q.probe_schema q.probe_keys)) mixed.0 in
+      let probe_frames = neither _ (has_other_frame q.probe_schema probe) types.0 in
+      let build_frames = neither (repeats_name q.build_schema || repeats_name q.probe_schema) (has_other_frame q.build_schema build) probe_frames.0 in
+      let sum = neither _ (not (is_one_sum q q.reductions)) none.built in
+      let group = neither _ (is_group_not_built q q.group_keys) sum.0 in
+      let filter = neither _ (is_some q.filter) group.0 in
+      let keep_build = neither _ q.keep_build filter.0 in
+      let keep_probe = neither _ q.keep_probe keep_build.0 in
+      let null_equal = neither _ q.null_equal keep_probe.0 in
+      let built_keys = neither (is_key_not_built q.build_schema q.build_keys) (is_key_not_built q.probe_schema q.probe_keys) null_equal.0 in
       record {
         build_have = all_have q.build_schema build build_frames.1;
         probe_have = all_have q.probe_schema probe probe_frames.1;
@@ -147,13 +137,13 @@ module _ (q : Query) (build probe : List Table) where
         keep_build = keep_build.1;
         no_filter = absent q.filter filter.1;
         group = one_column q q.group_keys groups.1 group.1;
-        sum = not_false (is_one_sum q q.reductions) sum.1;
+        sum = not-false (is_one_sum q q.reductions) sum.1;
       }
 
   pub few_build : checked_refusal q build probe ≡ None → is_too_large build ≡ false
-  few_build h = (either (is_too_large build) (is_too_large probe) (no_cause h).sizes).0
+  few_build h = (neither (is_too_large build) (is_too_large probe) (no_cause h).sizes).0
 
   pub few_probe : checked_refusal q build probe ≡ None → is_too_large probe ≡ false
-  few_probe h = (either (is_too_large build) (is_too_large probe) (no_cause h).sizes).1
+  few_probe h = (neither (is_too_large build) (is_too_large probe) (no_cause h).sizes).1
 
 pub ruleset checked = (simple_parts, few_build, few_probe)

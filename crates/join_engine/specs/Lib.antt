@@ -1,5 +1,6 @@
 pub use Rattle.join_model.specs.Keys
 pub use Rattle.join_model.specs.Joined
+pub use Rattle.join_model.specs.ColumnRefs
 pub use Rattle.join_model.specs.Filtered
 pub use Rattle.join_model.specs.Groups
 pub use Rattle.join_model.specs.Answers

@@ -6,8 +6,8 @@ use Rattle.col_core.specs.Values.{value_at, is_null}
 use Rattle.col_core.specs.Tables.{Row, Table}
 use Rattle.join_engine.specs.declared.places.RowPlace.{RowPlace}
 use Rattle.join_engine.specs.Places.{row_of, IsPlace}
-use Rattle.join_model.specs.declared.error.QueryError.{QueryError}
-use Rattle.join_model.specs.declared.error.QueryError.TheVariants as queries
+use Rattle.join_query.specs.declared.error.QueryError.{QueryError}
+use Rattle.join_query.specs.declared.error.QueryError.TheVariants as queries
 use Rattle.join_model.specs.Keys.{leaf_eq, tuple}
 use Rattle.join_model.specs.Joined.{rows_of}
 use Rattle.join_engine.specs.declared.pairs.Keyed.{Keyed}

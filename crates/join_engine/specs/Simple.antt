@@ -4,11 +4,11 @@ use Rattle.col_core.specs.declared.schema.Field.{Field}
 use Rattle.col_core.specs.Values.{value_at}
 use Rattle.col_core.specs.Tables.{Row, Table}
 use Rattle.col_core.specs.Schemas.{type_named}
-use Rattle.join_model.specs.declared.query.Query.{Query}
-use Rattle.join_model.specs.declared.query.ColumnRef.{ColumnRef}
+use Rattle.join_query.specs.declared.query.Query.{Query}
+use Rattle.join_query.specs.declared.query.ColumnRef.{ColumnRef}
 use Rattle.join_model.specs.Keys.{tuple}
-use Rattle.join_model.specs.Filtered.{schema_of}
 use Rattle.join_model.specs.Refusals.{is_one_sum}
+use Rattle.join_model.specs.ColumnRefs.{schema_of}
 use Rattle.join_engine.specs.Places.{AllHave}
 
 -- one column name, which the schema has

@@ -4,11 +4,11 @@ ghost use Rattle.join_model.specs.Answers.{answer_rows, answer_groups};
 ghost use Rattle.join_model.specs.Refusals.{checked_refusal, refusal_of, is_too_large, lists_too_many};
 ghost use Rattle.join_engine.specs.Simple.{IsSimple};
 
-use crate::check::check_query;
 use crate::grouping::group_frame;
 use crate::pairs::{ProbeError, join_rows, joined_pairs};
 use col_core::Frame;
 use join_model::{Query, QueryError};
+use query_check::check_query;
 use std::alloc::Global;
 use std::sync::ledger::Ledger;
 use step_count::Steps;

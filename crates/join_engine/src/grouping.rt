@@ -1,21 +1,21 @@
 //! The groups of joined rows, as a frame.
-ghost use Rattle.std.specs.Prelude.{◌≡◌, ◌<◌, ◌∷◌, [], true, is_some, length, map, codes, IfOk, ◌++◌};
+ghost use Rattle.std.specs.Prelude.{◌≡◌, ◌<◌, ◌∷◌, [], true, is_some, length, map, IfOk};
 ghost use Rattle.std.specs.List.{All};
 ghost use Rattle.col_core.specs.declared.data_type.DataType.TheVariants.{Int64};
 ghost use Rattle.col_core.specs.declared.leaf.Leaf.TheVariants.{Whole};
 ghost use Rattle.col_core.specs.Values.{Fits, value_at};
 ghost use Rattle.col_core.specs.Schemas.{type_named};
-ghost use Rattle.join_model.specs.Filtered.{schema_of, ref_value};
-ghost use Rattle.join_model.specs.Groups.{ref_type, group_rows};
+ghost use Rattle.join_model.specs.Groups.{group_rows};
 ghost use Rattle.join_model.specs.Refusals.{is_one_sum};
-ghost use Rattle.join_model.specs.Answers.{joined_schema, group_schema, ref_name, kind_prefix};
+ghost use Rattle.join_model.specs.Answers.{joined_schema, group_schema, reduction_name};
+ghost use Rattle.join_model.specs.ColumnRefs.{schema_of, ref_value, ref_type, ref_name};
 ghost use Rattle.join_engine.specs.Simple.{is_one_column};
 ghost use Rattle.join_engine.specs.Totals.{totals_table};
 
 use crate::gather::frame_of_columns;
 use crate::totals::{Totals, entries, group_totals};
 use col_core::{ColumnBuilder, DataType, Frame, Leaf, List, Name, Series};
-use join_model::{ColumnRef, Query, Reduction, ReductionKind, Side};
+use join_model::{ColumnRef, Query, Reduction, Side, kind_name, side_prefix};
 use std::alloc::{AllocError, Global};
 
 /// The column of joined rows that a reference names. Its side has such a column.
@@ -37,34 +37,20 @@ fn joined_column<'a>(query: &Query, rows: &'a Frame, column: &ColumnRef) -> &'a 
 }
 
 // A column's name in the answer.
-fn column_name(alloc: Global, column: &ColumnRef) -> Result<Name, AllocError>
+fn ref_name(alloc: Global, column: &ColumnRef) -> Result<Name, AllocError>
     ensures { IfOk result (λ n. n ≡ ref_name column.now) }
 {
-    match column.side {
-        Side::Probe => Name::joined(alloc, "probe.", column.name.as_str()),
-        Side::Build => Name::joined(alloc, "build.", column.name.as_str()),
-    }
-}
-
-fn kind_text(kind: ReductionKind) -> &'static str
-    ensures { result.now ≡ kind_prefix kind }
-{
-    match kind {
-        ReductionKind::Sum => "sum(",
-        ReductionKind::Min => "min(",
-        ReductionKind::Max => "max(",
-        ReductionKind::First => "first(",
-        ReductionKind::Last => "last(",
-    }
+    Name::joined(alloc, side_prefix(column.side), column.name.as_str())
 }
 
 // A reduction's name in the answer.
 fn reduction_name(alloc: Global, reduction: &Reduction) -> Result<Name, AllocError>
-    ensures { IfOk result (λ n. n ≡ kind_prefix reduction.now.kind ++ ref_name reduction.now.column ++ codes ")") }
+    ensures { IfOk result (λ n. n ≡ reduction_name reduction.now) }
 {
-    let column = column_name(alloc, &reduction.column)?;
-    let opened = Name::joined(alloc, kind_text(reduction.kind), column.as_str())?;
-    Name::joined(alloc, opened.as_str(), ")")
+    let column = ref_name(alloc, &reduction.column)?;
+    let closed = Name::joined(alloc, column.as_str(), ")")?;
+    let opened = Name::joined(alloc, "(", closed.as_str())?;
+    Name::joined(alloc, kind_name(reduction.kind), opened.as_str())
 }
 
 // The first values of tuples, as a column.
@@ -128,7 +114,7 @@ pub fn group_frame(alloc: Global, query: &Query, rows: &Frame) -> Result<Frame, 
     let values = joined_column(query, rows, &reduction.column);
     let entries = entries(alloc, keys, values)?;
     let totals = group_totals(alloc, &entries)?;
-    let key = column_name(alloc, group)?;
+    let key = ref_name(alloc, group)?;
     let sum = reduction_name(alloc, reduction)?;
     totals_frame(alloc, &totals, key, keys.dtype(), sum)
 }

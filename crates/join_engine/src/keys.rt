@@ -1,13 +1,23 @@
-//! Values and keys: when they are the same, and copies of them.
-ghost use Rattle.std.specs.Prelude.{◌≡◌, IfOk};
+//! Keys: where they stand, when they are the same, and copies of them.
+ghost use Rattle.std.specs.Prelude.{◌≡◌, true, IfOk};
 ghost use Rattle.join_model.specs.Keys.{leaf_eq, tuple_eq};
 ghost use Rattle.col_core.specs.Values.{is_null};
+ghost use Rattle.join_engine.specs.Simple.{is_one_name, IsKeyPlace};
 
-use col_core::{Blob, Leaf, List};
+use col_core::{Blob, Leaf, List, Name, Schema};
 use std::alloc::{AllocError, Global};
 
+/// Where the one key column of a side stands in its schema.
+#[tactic(auto, using(crate::proofs::Parts::key_is_some))]
+pub fn key_place(schema: &Schema, names: &[Name]) -> usize
+    requires { is_one_name schema.now names.now ≡ true }
+    ensures { IsKeyPlace schema.now names.now result }
+{
+    schema.position(names[0].as_str()).unwrap()
+}
+
 /// Whether two values are the same. Two nulls are.
-pub fn same_leaf(a: &Leaf, b: &Leaf) -> bool
+pub fn leaf_eq(a: &Leaf, b: &Leaf) -> bool
     ensures { result ≡ leaf_eq a.now b.now }
 {
     match (a, b) {
@@ -30,14 +40,14 @@ pub fn is_null_leaf(value: &Leaf) -> bool
 }
 
 /// Whether two tuples are the same.
-pub fn same_tuple(a: &[Leaf], b: &[Leaf]) -> bool
+pub fn tuple_eq(a: &[Leaf], b: &[Leaf]) -> bool
     ensures { result ≡ tuple_eq a.now b.now }
 {
     if a.len() != b.len() {
         return false;
     }
     for i in 0..a.len() {
-        if !same_leaf(&a[i], &b[i]) {
+        if !leaf_eq(&a[i], &b[i]) {
             return false;
         }
     }

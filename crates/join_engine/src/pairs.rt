@@ -9,11 +9,10 @@ ghost use Rattle.join_model.specs.Answers.{joined_schema};
 ghost use Rattle.std.specs.List.{All};
 
 use crate::gather::{frame_of_columns, gather};
-use crate::keys::{is_null_leaf, same_leaf};
-use crate::named::key_place;
+use crate::keys::{is_null_leaf, key_place, leaf_eq};
 use crate::places::{RowPlace, places, value_of};
 use col_core::{Frame, Leaf, Name, Schema};
-use join_model::Query;
+use join_model::{Query, Side, side_prefix};
 use std::alloc::{AllocError, AllocFailed, Global};
 
 /// A row's key and place.
@@ -64,15 +63,15 @@ fn match_one(
     out: &mut Vec<Pair>,
     probe: &Keyed,
     build: &[Keyed],
-    most: u64,
+    max_pairs: u64,
 ) -> Result<(), ProbeError>
     ensures ok { OnOk result (out.new.items ≡ out.old.items ++ pairs_of build.now probe.now) }
-    ensures fails { IfErr result (ProbeFails most (out.old.items ++ pairs_of build.now probe.now)) }
-    ensures within { OnOk result (length out.old.items ≤ most → length out.new.items ≤ most) }
+    ensures fails { IfErr result (ProbeFails max_pairs (out.old.items ++ pairs_of build.now probe.now)) }
+    ensures within { OnOk result (length out.old.items ≤ max_pairs → length out.new.items ≤ max_pairs) }
 {
     for b in build {
-        if same_leaf(&probe.key, &b.key) && !is_null_leaf(&probe.key) {
-            if out.len() as u64 >= most {
+        if leaf_eq(&probe.key, &b.key) && !is_null_leaf(&probe.key) {
+            if out.len() as u64 >= max_pairs {
                 return Err(ProbeError::TooLarge);
             }
             out.push(Pair {
@@ -87,17 +86,17 @@ fn match_one(
 /// The pairs that join, in the order of the probe rows, and then of the build rows.
 pub fn matches(
     alloc: Global,
-    probe: &[Keyed],
-    build: &[Keyed],
-    most: u64,
+    probe_rows: &[Keyed],
+    build_rows: &[Keyed],
+    max_pairs: u64,
 ) -> Result<Vec<Pair>, ProbeError>
-    ensures ok { IfOk result (λ v. v.items ≡ matched build.now probe.now) }
-    ensures few { IfOk result (λ _. length (matched build.now probe.now) ≤ most) }
-    ensures fails { IfErr result (ProbeFails most (matched build.now probe.now)) }
+    ensures ok { IfOk result (λ v. v.items ≡ matched build_rows.now probe_rows.now) }
+    ensures few { IfOk result (λ _. length (matched build_rows.now probe_rows.now) ≤ max_pairs) }
+    ensures fails { IfErr result (ProbeFails max_pairs (matched build_rows.now probe_rows.now)) }
 {
     let mut out = Vec::new(alloc);
-    for p in probe {
-        match_one(&mut out, p, build, most)?;
+    for p in probe_rows {
+        match_one(&mut out, p, build_rows, max_pairs)?;
     }
     Ok(out)
 }
@@ -157,19 +156,19 @@ pub fn joined_pairs(
     ensures few { IfOk result (λ v. lists_too_many query.now build.now probe.now ≡ false) }
     ensures refused { IfErr result (λ e. (e ≡ ProbeError.Memory) ⊎ (lists_too_many query.now build.now probe.now ≡ true)) }
 {
-    let b = keyed_side(
+    let build_rows = keyed_side(
         alloc,
         &query.build_schema,
         query.build_keys.as_slice(),
         build,
     )?;
-    let p = keyed_side(
+    let probe_rows = keyed_side(
         alloc,
         &query.probe_schema,
         query.probe_keys.as_slice(),
         probe,
     )?;
-    matches(alloc, &p, &b, query.plan.rows)
+    matches(alloc, &probe_rows, &build_rows, query.plan.rows)
 }
 
 fn probe_places(alloc: Global, pairs: &[Pair]) -> Result<Vec<RowPlace>, AllocError>
@@ -197,23 +196,23 @@ pub fn join_rows(
     requires pairs { All (IsPair probe.now build.now) pairs.now }
     ensures { IfOk result (λ f. f ≡ record { schema = joined_schema query.now; rows = map (pair_row probe.now build.now) pairs.now }) }
 {
-    let left = probe_places(alloc, pairs)?;
-    let right = build_places(alloc, pairs)?;
+    let probe_places = probe_places(alloc, pairs)?;
+    let build_places = build_places(alloc, pairs)?;
     let mut columns = Vec::new(alloc);
     gather(
         alloc,
-        "probe.",
+        side_prefix(Side::Probe),
         &query.probe_schema,
         probe,
-        &left,
+        &probe_places,
         &mut columns,
     )?;
     gather(
         alloc,
-        "build.",
+        side_prefix(Side::Build),
         &query.build_schema,
         build,
-        &right,
+        &build_places,
         &mut columns,
     )?;
     frame_of_columns(alloc, columns, pairs.len())

@@ -7,7 +7,7 @@ ghost use Rattle.join_model.specs.Keys.{tuple_eq};
 ghost use Rattle.reduce_model.specs.Folds.{add_value};
 ghost use Rattle.join_engine.specs.Totals.{IsFoundIn, keys_of, total_of, TakesEntry, entry_at, entries_of};
 
-use crate::keys::{copy_tuple, same_tuple};
+use crate::keys::{copy_tuple, tuple_eq};
 use col_core::{Leaf, List, Series};
 use std::alloc::{AllocError, Global};
 
@@ -62,7 +62,7 @@ fn find_key(keys: &[List<Leaf>], key: &List<Leaf>) -> Option<usize>
     ensures { MatchOption result (list_any (λ s. tuple_eq s key.now) keys.now ≡ false) (IsFoundIn keys.now key.now) }
 {
     for (i, k) in keys.iter().enumerate() {
-        if same_tuple(k.as_slice(), key.as_slice()) {
+        if tuple_eq(k.as_slice(), key.as_slice()) {
             return Some(i);
         }
     }

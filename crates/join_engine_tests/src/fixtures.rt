@@ -4,9 +4,7 @@ ghost use Rattle.col_core.specs.declared.data_type.DataType.TheVariants.{Int64, 
 ghost use Rattle.col_core.specs.Values.{Fits};
 
 use col_core::{Blob, ColumnBuilder, DataType, Field, Frame, Leaf, List, Name, Schema, Series};
-use join_engine::{
-    ColumnRef, Filter, FilterOp, Operand, Plan, Query, Reduction, ReductionKind, Side,
-};
+use join_engine::{ColumnRef, DEFAULT_PLAN, Query, Reduction, ReductionKind, Side};
 use std::alloc::Global;
 use std::str::from_utf8;
 use std::test::Fail;
@@ -75,17 +73,6 @@ pub fn orders(
     Frame::new(alloc, schema(alloc, &fields)?, columns).map_err(|_| Fail::from("frame"))
 }
 
-pub const PLAN: Plan = Plan {
-    partitions: 8,
-    states: 4,
-    limit: 4096,
-    morsel: 65536,
-    rows: 4294967295,
-    seed: 14695981039346656037,
-    mask: 18446744073709551615,
-    pseed: 11400714819323198485,
-};
-
 fn names(alloc: Global, name: &str) -> Result<List<Name>, Fail> {
     let mut list = Vec::new(alloc);
     list.push(Name::new(alloc, name)?)?;
@@ -99,17 +86,13 @@ fn column(alloc: Global, side: Side, name: &str) -> Result<ColumnRef, Fail> {
     })
 }
 
-fn reductions(alloc: Global, kind: ReductionKind, name: &str) -> Result<List<Reduction>, Fail> {
+fn sum(alloc: Global, name: &str) -> Result<List<Reduction>, Fail> {
     let mut list = Vec::new(alloc);
     list.push(Reduction {
-        kind,
+        kind: ReductionKind::Sum,
         column: column(alloc, Side::Probe, name)?,
     })?;
     Ok(List::from_vec(list))
-}
-
-fn probe_schema(alloc: Global, amount: DataType) -> Result<Schema, Fail> {
-    schema(alloc, &[("cust", DataType::Int64), ("amt", amount)])
 }
 
 /// The orders of each customer's name, added up.
@@ -121,7 +104,10 @@ pub fn query(alloc: Global) -> Result<Query, Fail> {
             alloc,
             &[("id", DataType::Int64), ("name", DataType::String)],
         )?,
-        probe_schema: probe_schema(alloc, DataType::Int64)?,
+        probe_schema: schema(
+            alloc,
+            &[("cust", DataType::Int64), ("amt", DataType::Int64)],
+        )?,
         build_keys: names(alloc, "id")?,
         probe_keys: names(alloc, "cust")?,
         null_equal: false,
@@ -129,52 +115,9 @@ pub fn query(alloc: Global) -> Result<Query, Fail> {
         keep_build: false,
         filter: None,
         group_keys: List::from_vec(group_keys),
-        reductions: reductions(alloc, ReductionKind::Sum, "amt")?,
-        plan: PLAN,
+        reductions: sum(alloc, "amt")?,
+        plan: DEFAULT_PLAN,
     })
-}
-
-// Whether the name is the name.
-fn name_filter(alloc: Global) -> Result<Filter, Fail> {
-    Ok(Filter {
-        op: FilterOp::Eq,
-        left: column(alloc, Side::Build, "name")?,
-        right: Operand::Column(column(alloc, Side::Build, "name")?),
-    })
-}
-
-/// What differs in a query.
-#[derive(Clone, Copy, Debug)]
-pub enum Change {
-    Nothing,
-    NoGroup,
-    BuildKey(&'static str),
-    Sum(&'static str),
-    Least,
-    AmountType(DataType),
-    NameFilter,
-    NullEqual,
-    KeepProbe,
-    KeepBuild,
-    Plan(Plan),
-}
-
-/// Changes a query.
-pub fn make_change(alloc: Global, query: &mut Query, change: Change) -> Result<(), Fail> {
-    match change {
-        Change::Nothing => {}
-        Change::NoGroup => query.group_keys = List::new(alloc),
-        Change::BuildKey(name) => query.build_keys = names(alloc, name)?,
-        Change::Sum(name) => query.reductions = reductions(alloc, ReductionKind::Sum, name)?,
-        Change::Least => query.reductions = reductions(alloc, ReductionKind::Min, "amt")?,
-        Change::AmountType(dtype) => query.probe_schema = probe_schema(alloc, dtype)?,
-        Change::NameFilter => query.filter = Some(name_filter(alloc)?),
-        Change::NullEqual => query.null_equal = true,
-        Change::KeepProbe => query.keep_probe = true,
-        Change::KeepBuild => query.keep_build = true,
-        Change::Plan(plan) => query.plan = plan,
-    }
-    Ok(())
 }
 
 fn leaf_text(alloc: Global, leaf: &Leaf) -> Result<String, Fail> {

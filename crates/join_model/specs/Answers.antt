@@ -2,21 +2,16 @@
 use Rattle.std.specs.Prelude.{ℕ, List, ◌++◌, map, codes}
 use Rattle.col_core.specs.declared.schema.Field.{Field}
 use Rattle.col_core.specs.Tables.{Table}
-use Rattle.reduce_model.specs.declared.kind.ReductionKind.{ReductionKind}
-use Rattle.reduce_model.specs.declared.kind.ReductionKind.TheVariants as kinds
 use Rattle.reduce_model.specs.Folds.{reduced_type}
-use Rattle.join_model.specs.declared.query.Query.{Query}
-use Rattle.join_model.specs.declared.query.Side.{Side}
-use Rattle.join_model.specs.declared.query.Side.TheVariants as sides
-use Rattle.join_model.specs.declared.query.ColumnRef.{ColumnRef}
-use Rattle.join_model.specs.declared.query.Reduction.{Reduction}
+use Rattle.join_query.specs.declared.query.Query.{Query}
+use Rattle.join_query.specs.declared.query.Side.TheVariants as sides
+use Rattle.join_query.specs.declared.query.ColumnRef.{ColumnRef}
+use Rattle.join_query.specs.declared.query.Reduction.{Reduction}
+use Rattle.join_query.specs.Names.{side_prefix, kind_name}
+use Rattle.join_model.specs.ColumnRefs.{ref_type, ref_name}
 use Rattle.join_model.specs.Joined.{rows_of}
 use Rattle.join_model.specs.Filtered.{kept_rows}
-use Rattle.join_model.specs.Groups.{ref_type, group_rows}
-
-abbrev pub side_prefix : Side → List ℕ
-side_prefix sides.Probe = codes "probe."
-side_prefix sides.Build = codes "build."
+use Rattle.join_model.specs.Groups.{group_rows}
 
 -- a schema's fields, each name after a prefix
 abbrev pub prefixed : List ℕ → List Field → List Field
@@ -26,23 +21,15 @@ prefixed prefix schema = map (λ f. record { name = prefix ++ f.name; dtype = f.
 abbrev pub joined_schema : Query → List Field
 joined_schema q = prefixed (side_prefix sides.Probe) q.probe_schema ++ prefixed (side_prefix sides.Build) q.build_schema
 
-abbrev pub kind_prefix : ReductionKind → List ℕ
-kind_prefix kinds.Sum = codes "sum("
-kind_prefix kinds.Min = codes "min("
-kind_prefix kinds.Max = codes "max("
-kind_prefix kinds.First = codes "first("
-kind_prefix kinds.Last = codes "last("
-
--- a column's name in the answer
-abbrev pub ref_name : ColumnRef → List ℕ
-ref_name ref = side_prefix ref.side ++ ref.name
-
 abbrev pub key_field : Query → ColumnRef → Field
 key_field q ref = record { name = ref_name ref; dtype = ref_type q ref }
 
--- a reduction's column, as `sum(probe.x)`
+-- a reduction's name in the answer, as `sum(probe.x)`
+abbrev pub reduction_name : Reduction → List ℕ
+reduction_name r = kind_name r.kind ++ codes "(" ++ ref_name r.column ++ codes ")"
+
 abbrev pub reduction_field : Query → Reduction → Field
-reduction_field q r = record { name = kind_prefix r.kind ++ ref_name r.column ++ codes ")"; dtype = reduced_type r.kind (ref_type q r.column) }
+reduction_field q r = record { name = reduction_name r; dtype = reduced_type r.kind (ref_type q r.column) }
 
 -- the group keys, and then the reductions
 abbrev pub group_schema : Query → List Field

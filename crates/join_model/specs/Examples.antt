@@ -7,21 +7,18 @@ use Rattle.col_core.specs.declared.data_type.DataType.TheVariants.{Int64, String
 use Rattle.col_core.specs.Tables.{Row, Table}
 use Rattle.reduce_model.specs.declared.kind.ReductionKind.{ReductionKind}
 use Rattle.reduce_model.specs.declared.kind.ReductionKind.TheVariants.{Sum, Min, Max, First, Last}
-use Rattle.join_model.specs.declared.query.Query.{Query}
-use Rattle.join_model.specs.declared.query.ColumnRef.{ColumnRef}
-use Rattle.join_model.specs.declared.query.Reduction.{Reduction}
-use Rattle.join_model.specs.declared.query.Side.TheVariants.{Build, Probe}
-use Rattle.join_model.specs.declared.query.FilterOp.TheVariants as ops
-use Rattle.join_model.specs.declared.query.IntLiteral.TheVariants as literals
-use Rattle.join_model.specs.declared.query.Operand.TheVariants as operands
-use Rattle.join_model.specs.declared.query.Plan.{Plan}
+use Rattle.join_query.specs.declared.query.Query.{Query}
+use Rattle.join_query.specs.declared.query.ColumnRef.{ColumnRef}
+use Rattle.join_query.specs.declared.query.Reduction.{Reduction}
+use Rattle.join_query.specs.declared.query.Side.TheVariants.{Build, Probe}
+use Rattle.join_query.specs.declared.query.FilterOp.TheVariants as ops
+use Rattle.join_query.specs.declared.query.IntLiteral.TheVariants as literals
+use Rattle.join_query.specs.declared.query.Operand.TheVariants as operands
+use Rattle.join_query.specs.declared.limits.TheConstants.{DEFAULT_PLAN}
 use Rattle.reduce_model.specs.Examples.{number, minus, text}
 
 abbrev pub field : List ℕ → DataType → Field
 field name dtype = record { name = name; dtype = dtype }
-
-abbrev pub default_plan : Plan
-default_plan = record { partitions = 8; states = 4; limit = 4096; morsel = 65536; rows = 4294967295; seed = 14695981039346656037; mask = 18446744073709551615; pseed = 11400714819323198485 }
 
 abbrev pub build_column : List ℕ → ColumnRef
 build_column name = record { side = Build; name = name }
@@ -48,7 +45,7 @@ simple_query build_schema probe_schema build_key probe_key group summed = record
   filter = None;
   group_keys = group ∷ [];
   reductions = reduction Sum summed ∷ [];
-  plan = default_plan;
+  plan = DEFAULT_PLAN;
 }
 
 -- customers, in two frames, and their orders

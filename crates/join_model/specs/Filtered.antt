@@ -1,43 +1,19 @@
 -- The joined rows that pass the filter.
-use Rattle.std.specs.Prelude.{ℕ, ℤ, pos, ◌+◌, Bool, true, false, not, int_lt, List, filter, length, Option, Some, None}
-use Rattle.std.specs.Option.{option_map_or, option_map}
+use Rattle.std.specs.Prelude.{ℤ, pos, Bool, true, false, not, int_lt, List, filter}
+use Rattle.std.specs.Option.{option_map_or}
 use Rattle.std.specs.Ordering.{int_eq}
 use Rattle.col_core.specs.declared.leaf.Leaf.{Leaf}
 use Rattle.col_core.specs.declared.leaf.Leaf.TheVariants as leaves
-use Rattle.col_core.specs.declared.schema.Field.{Field}
-use Rattle.col_core.specs.Values.{value_at}
 use Rattle.col_core.specs.Tables.{Row}
-use Rattle.col_core.specs.Schemas.{field_position}
-use Rattle.join_model.specs.declared.query.Query.{Query}
-use Rattle.join_model.specs.declared.query.Side.{Side}
-use Rattle.join_model.specs.declared.query.Side.TheVariants as sides
-use Rattle.join_model.specs.declared.query.ColumnRef.{ColumnRef}
-use Rattle.join_model.specs.declared.query.FilterOp.{FilterOp}
-use Rattle.join_model.specs.declared.query.FilterOp.TheVariants as ops
-use Rattle.join_model.specs.declared.query.IntLiteral.{IntLiteral}
-use Rattle.join_model.specs.declared.query.IntLiteral.TheVariants as literals
-use Rattle.join_model.specs.declared.query.Operand.{Operand}
-use Rattle.join_model.specs.declared.query.Operand.TheVariants as operands
-use Rattle.join_model.specs.declared.query.Filter.{Filter}
+use Rattle.join_query.specs.declared.query.Query.{Query}
+use Rattle.join_query.specs.declared.query.FilterOp.{FilterOp}
+use Rattle.join_query.specs.declared.query.FilterOp.TheVariants as ops
+use Rattle.join_query.specs.declared.query.IntLiteral.{IntLiteral}
+use Rattle.join_query.specs.declared.query.IntLiteral.TheVariants as literals
+use Rattle.join_query.specs.declared.query.Operand.{Operand}
+use Rattle.join_query.specs.declared.query.Operand.TheVariants as operands
+use Rattle.join_model.specs.ColumnRefs.{ref_value}
 use Rattle.join_model.specs.Joined.{joined_rows}
-
--- the schema of a side
-abbrev pub schema_of : Query → Side → List Field
-schema_of q sides.Build = q.build_schema
-schema_of q sides.Probe = q.probe_schema
-
--- where a side's columns begin in a joined row: the probe columns come first
-abbrev pub first_place : Query → Side → ℕ
-first_place q sides.Probe = 0
-first_place q sides.Build = length q.probe_schema
-
--- where a column stands in a joined row, if its side has it
-abbrev pub place_of : Query → ColumnRef → Option ℕ
-place_of q ref = option_map (λ i. first_place q ref.side + i) (field_position ref.name (schema_of q ref.side))
-
--- a joined row's value in a column
-abbrev pub ref_value : Query → ColumnRef → Row → Leaf
-ref_value q ref row = option_map_or (value_at row) (place_of q ref) leaves.Null
 
 -- the number of a literal
 abbrev pub literal : IntLiteral → ℤ

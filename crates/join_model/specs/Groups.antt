@@ -1,22 +1,13 @@
 -- The groups of rows, and what the reductions give for each.
 use Rattle.std.specs.Prelude.{List, ◌++◌, map, filter}
-use Rattle.std.specs.Option.{option_map_or}
 use Rattle.list_laws.specs.Distinct.{distinct}
 use Rattle.col_core.specs.declared.leaf.Leaf.{Leaf}
-use Rattle.col_core.specs.declared.data_type.DataType.{DataType}
-use Rattle.col_core.specs.declared.data_type.DataType.TheVariants.{Binary}
 use Rattle.col_core.specs.Tables.{Row}
-use Rattle.col_core.specs.Schemas.{type_named}
 use Rattle.reduce_model.specs.Folds.{fold_of}
-use Rattle.join_model.specs.declared.query.Query.{Query}
-use Rattle.join_model.specs.declared.query.ColumnRef.{ColumnRef}
-use Rattle.join_model.specs.declared.query.Reduction.{Reduction}
+use Rattle.join_query.specs.declared.query.Query.{Query}
+use Rattle.join_query.specs.declared.query.Reduction.{Reduction}
 use Rattle.join_model.specs.Keys.{tuple_eq}
-use Rattle.join_model.specs.Filtered.{schema_of, ref_value}
-
--- the type of a column; of one that its side lacks, `Binary`
-abbrev pub ref_type : Query → ColumnRef → DataType
-ref_type q ref = option_map_or (λ t. t) (type_named ref.name (schema_of q ref.side)) Binary
+use Rattle.join_model.specs.ColumnRefs.{ref_type, ref_value}
 
 -- a row's group key
 abbrev pub group_key : Query → Row → List Leaf

@@ -4,7 +4,7 @@ use Rattle.std.specs.List.{list_any, flat_map}
 use Rattle.col_core.specs.declared.leaf.Leaf.TheVariants as leaves
 use Rattle.col_core.specs.declared.schema.Field.{Field}
 use Rattle.col_core.specs.Tables.{Row, Table}
-use Rattle.join_model.specs.declared.query.Query.{Query}
+use Rattle.join_query.specs.declared.query.Query.{Query}
 use Rattle.join_model.specs.Keys.{joins, tuple}
 
 -- the rows of a side: those of all frames, frame by frame

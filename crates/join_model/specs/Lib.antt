@@ -1,7 +1,9 @@
 pub use Rattle.reduce_model.specs.Folds
 pub use Rattle.reduce_model.specs.Orders
+pub use Rattle.join_query.specs.Names
 pub mod Keys
 pub mod Joined
+pub mod ColumnRefs
 pub mod Filtered
 pub mod Groups
 pub mod Answers

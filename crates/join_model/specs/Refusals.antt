@@ -1,5 +1,5 @@
 -- The first cause for which a query and its frames are refused.
-use Rattle.std.specs.Prelude.{ℕ, ◌+◌, ◌^◌, ◌%◌, ◌==◌, nat_lt, nat_le, Bool, true, false, ◌||◌, ◌&&◌, not, if◌then◌else◌, List, [], ◌∷◌, ◌++◌, map, length, Option, Some, None, position, is_none, is_some}
+use Rattle.std.specs.Prelude.{ℕ, ◌%◌, ◌==◌, nat_lt, nat_le, Bool, true, false, ◌||◌, ◌&&◌, not, if◌then◌else◌, List, [], ◌∷◌, map, length, Option, Some, None, position, is_some}
 use Rattle.std.specs.List.{list_any}
 use Rattle.std.specs.Option.{option_map_or, option_map}
 use Rattle.std.specs.Str.{bytes_eq}
@@ -7,27 +7,25 @@ use Rattle.std.specs.Cmp.Lexicographic.{pointwise}
 use Rattle.list_laws.specs.Distinct.{has_repeat}
 use Rattle.col_core.specs.declared.schema.Field.{Field}
 use Rattle.col_core.specs.declared.data_type.DataType.{DataType}
-use Rattle.col_core.specs.declared.data_type.DataType.TheVariants.{Int8, Int16, Int32, Int64, UInt8, UInt16, UInt32, UInt64, String, Binary}
+use Rattle.col_core.specs.declared.data_type.DataType.TheVariants.{Int8, Int16, Int32, Int64, UInt8, UInt16, UInt32, UInt64, String}
 use Rattle.col_core.specs.Tables.{Table}
-use Rattle.col_core.specs.Schemas.{dtype_eq, schema_eq, type_named}
+use Rattle.col_core.specs.Schemas.{dtype_eq, schema_eq}
 use Rattle.reduce_model.specs.declared.kind.ReductionKind.{ReductionKind}
 use Rattle.reduce_model.specs.declared.kind.ReductionKind.TheVariants as kinds
 use Rattle.reduce_model.specs.Folds.{is_unsupported}
-use Rattle.join_model.specs.declared.error.QueryError.{QueryError}
-use Rattle.join_model.specs.declared.error.QueryError.TheVariants.{NoKeyColumns, UnknownColumn, SchemaMismatch, UnsupportedReduction, UnsupportedFilter, BadPlan, TooLarge, NotBuilt}
-use Rattle.join_model.specs.declared.query.Query.{Query}
-use Rattle.join_model.specs.declared.query.Plan.{Plan}
-use Rattle.join_model.specs.declared.query.Side.TheVariants as sides
-use Rattle.join_model.specs.declared.query.ColumnRef.{ColumnRef}
-use Rattle.join_model.specs.declared.query.Filter.{Filter}
-use Rattle.join_model.specs.declared.query.Reduction.{Reduction}
-use Rattle.join_model.specs.declared.query.IntLiteral.{IntLiteral}
-use Rattle.join_model.specs.declared.query.IntLiteral.TheVariants as literals
-use Rattle.join_model.specs.declared.query.Operand.{Operand}
-use Rattle.join_model.specs.declared.query.Operand.TheVariants as operands
+use Rattle.join_query.specs.declared.error.QueryError.{QueryError}
+use Rattle.join_query.specs.declared.error.QueryError.TheVariants.{NoKeyColumns, UnknownColumn, SchemaMismatch, UnsupportedReduction, UnsupportedFilter, BadPlan, TooLarge, NotBuilt}
+use Rattle.join_query.specs.declared.query.Query.{Query}
+use Rattle.join_query.specs.declared.query.Plan.{Plan}
+use Rattle.join_query.specs.declared.query.ColumnRef.{ColumnRef}
+use Rattle.join_query.specs.declared.query.Reduction.{Reduction}
+use Rattle.join_query.specs.declared.query.IntLiteral.{IntLiteral}
+use Rattle.join_query.specs.declared.query.IntLiteral.TheVariants as literals
+use Rattle.join_query.specs.declared.query.Operand.{Operand}
+use Rattle.join_query.specs.declared.query.Operand.TheVariants as operands
+use Rattle.join_query.specs.declared.limits.TheConstants.{MAX_PARTITIONS, MAX_STATES, MAX_LIMIT, MAX_MORSEL, MAX_ROWS, SIDE_LIMIT}
+use Rattle.join_model.specs.ColumnRefs.{type_under, ref_type, named_columns, is_unknown}
 use Rattle.join_model.specs.Joined.{rows_of, joined_rows}
-use Rattle.join_model.specs.Filtered.{schema_of}
-use Rattle.join_model.specs.Groups.{ref_type}
 
 abbrev pub is_empty : {X : Type 0} → List X → Bool
 is_empty [] = true
@@ -36,22 +34,6 @@ is_empty (x ∷ xs) = false
 -- a join key list of either side, or the group key list, is empty
 abbrev pub lacks_keys : Query → Bool
 lacks_keys q = is_empty q.build_keys || is_empty q.probe_keys || is_empty q.group_keys
-
-abbrev pub operand_columns : Operand → List ColumnRef
-operand_columns (operands.Column ref) = ref ∷ []
-operand_columns (operands.Literal n) = []
-
-abbrev pub filter_columns : Option Filter → List ColumnRef
-filter_columns filter = option_map_or (λ f. f.left ∷ operand_columns f.right) filter []
-
--- the columns that are named: build keys, probe keys, the filter's, group keys, reductions
-abbrev pub named_columns : Query → List ColumnRef
-named_columns q = map (λ name. record { side = sides.Build; name = name }) q.build_keys
-    ++ map (λ name. record { side = sides.Probe; name = name }) q.probe_keys
-    ++ filter_columns q.filter ++ q.group_keys ++ map (λ r. r.column) q.reductions
-
-abbrev pub is_unknown : Query → ColumnRef → Bool
-is_unknown q ref = is_none (type_named ref.name (schema_of q ref.side))
 
 -- the least place of a column that its side lacks
 abbrev pub unknown_column : Query → Option ℕ
@@ -66,7 +48,7 @@ has_other_frame schema frames = list_any (λ frame. not (schema_eq frame.schema 
 
 -- the types of columns of a side, by their names; of one that it lacks, `Binary`
 abbrev pub types_named : List Field → List (List ℕ) → List DataType
-types_named schema names = map (λ name. option_map_or (λ t. t) (type_named name schema) Binary) names
+types_named schema names = map (type_under schema) names
 
 abbrev pub literal_type : IntLiteral → DataType
 literal_type (literals.I8 z) = Int8
@@ -82,12 +64,20 @@ abbrev pub operand_type : Query → Operand → DataType
 operand_type q (operands.Column ref) = ref_type q ref
 operand_type q (operands.Literal n) = literal_type n
 
+-- two key lists are as long, and have the same types place by place
+abbrev pub have_same_types : List Field → List (List ℕ) → List Field → List (List ℕ) → Bool
+have_same_types build build_keys probe probe_keys = pointwise dtype_eq (types_named build build_keys) (types_named probe probe_keys)
+
+-- a filter's operands differ in type
+abbrev pub has_mixed_filter : Query → Bool
+has_mixed_filter q = option_map_or (λ f. not (dtype_eq (ref_type q f.left) (operand_type q f.right))) q.filter false
+
 -- a schema repeats a name, a frame is of another schema, the keys differ in number or in type, or the filter's operands in type
 abbrev pub schemas_differ : Query → List Table → List Table → Bool
 schemas_differ q build probe = repeats_name q.build_schema || repeats_name q.probe_schema
     || has_other_frame q.build_schema build || has_other_frame q.probe_schema probe
-    || not (pointwise dtype_eq (types_named q.build_schema q.build_keys) (types_named q.probe_schema q.probe_keys))
-    || option_map_or (λ f. not (dtype_eq (ref_type q f.left) (operand_type q f.right))) q.filter false
+    || not (have_same_types q.build_schema q.build_keys q.probe_schema q.probe_keys)
+    || has_mixed_filter q
 
 -- the least place of a reduction that there is not
 abbrev pub unsupported_reduction : Query → Option ℕ
@@ -113,9 +103,9 @@ is_within n most = nat_lt 0 n && nat_le n most
 
 -- each number of the plan is in its range, and the factor of the partitions is odd
 abbrev pub is_good_plan : Plan → Bool
-is_good_plan plan = is_within plan.partitions 65536 && is_within plan.states 65536
-    && is_within plan.limit 2147483647 && is_within plan.morsel 2147483647
-    && is_within plan.rows 4294967295 && (plan.pseed % 2 == 1)
+is_good_plan plan = is_within plan.partitions MAX_PARTITIONS && is_within plan.states MAX_STATES
+    && is_within plan.limit MAX_LIMIT && is_within plan.morsel MAX_MORSEL
+    && is_within plan.rows MAX_ROWS && (plan.pseed % 2 == 1)
 
 abbrev pub is_int64 : DataType → Bool
 is_int64 Int64 = true
@@ -151,7 +141,7 @@ is_not_built q = is_key_not_built q.build_schema q.build_keys || is_key_not_buil
 
 -- a side has 2^31 or more frames or rows
 abbrev pub is_too_large : List Table → Bool
-is_too_large frames = nat_le 2147483648 (length frames) || nat_le 2147483648 (length (rows_of frames))
+is_too_large frames = nat_le SIDE_LIMIT (length frames) || nat_le SIDE_LIMIT (length (rows_of frames))
 
 -- the joined list before the filter is longer than the plan allows
 abbrev pub lists_too_many : Query → List Table → List Table → Bool

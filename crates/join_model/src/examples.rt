@@ -5,11 +5,12 @@ ghost use Rattle.col_core.specs.declared.data_type.DataType.TheVariants.{Int8, I
 ghost use Rattle.join_model.specs.Joined.{rows_of, joined_rows};
 ghost use Rattle.join_model.specs.Answers.{answer_rows, answer_groups};
 ghost use Rattle.join_model.specs.Refusals.{checked_refusal, refusal_of};
-ghost use Rattle.join_model.specs.declared.error.QueryError.TheVariants.{NoKeyColumns, UnknownColumn, SchemaMismatch, UnsupportedReduction, UnsupportedFilter, BadPlan, TooLarge, NotBuilt};
-ghost use Rattle.join_model.specs.declared.query.FilterOp.TheVariants.{Eq};
-ghost use Rattle.join_model.specs.declared.query.Operand.TheVariants.{Column, Literal};
-ghost use Rattle.join_model.specs.declared.query.IntLiteral.TheVariants.{I64};
-ghost use Rattle.join_model.specs.Examples.{inner_query, outer_query, null_key_query, null_joins_query, filter_query, report_query, customers, orders, customer_frames, order_frames, fewer_orders, keyed_build, keyed_probe, region_frames, sales_frames, field, table, two_numbers, customer, build_column, probe_column, reduction, default_plan};
+ghost use Rattle.join_query.specs.declared.error.QueryError.TheVariants.{NoKeyColumns, UnknownColumn, SchemaMismatch, UnsupportedReduction, UnsupportedFilter, BadPlan, TooLarge, NotBuilt};
+ghost use Rattle.join_query.specs.declared.query.FilterOp.TheVariants.{Eq};
+ghost use Rattle.join_query.specs.declared.query.Operand.TheVariants.{Column, Literal};
+ghost use Rattle.join_query.specs.declared.query.IntLiteral.TheVariants.{I64};
+ghost use Rattle.join_model.specs.Examples.{inner_query, outer_query, null_key_query, null_joins_query, filter_query, report_query, customers, orders, customer_frames, order_frames, fewer_orders, keyed_build, keyed_probe, region_frames, sales_frames, field, table, two_numbers, customer, build_column, probe_column, reduction};
+ghost use Rattle.join_query.specs.declared.limits.TheConstants.{DEFAULT_PLAN};
 ghost use Rattle.reduce_model.specs.Examples.{number, minus, text};
 ghost use Rattle.reduce_model.specs.declared.kind.ReductionKind.TheVariants.{Sum, Min};
 
@@ -91,16 +92,16 @@ pub fn refusal_examples()
     ensures repeated_name { refusal_of (record inner_query { probe_schema = orders ++ orders }) [] [] ≡ Some SchemaMismatch }
     ensures no_sum { refusal_of (record inner_query { probe_schema = field (codes "cust") Int64 ∷ field (codes "amt") Boolean ∷ [] }) [] [] ≡ Some (UnsupportedReduction 0) }
     ensures filter_of_texts { refusal_of (record inner_query { filter = Some (record { op = Eq; left = build_column (codes "name"); right = Column (build_column (codes "name")) }) }) customer_frames order_frames ≡ Some UnsupportedFilter }
-    ensures bad_plan { refusal_of (record inner_query { plan = record default_plan { partitions = 0 } }) customer_frames order_frames ≡ Some BadPlan }
-    ensures even_factor { refusal_of (record inner_query { plan = record default_plan { pseed = 2 } }) customer_frames order_frames ≡ Some BadPlan }
-    ensures too_large { refusal_of (record inner_query { plan = record default_plan { rows = 2 } }) customer_frames order_frames ≡ Some TooLarge }
-    ensures too_large_unchecked { checked_refusal (record inner_query { plan = record default_plan { rows = 2 } }) customer_frames order_frames ≡ None }
-    ensures just_fits { refusal_of (record inner_query { plan = record default_plan { rows = 3 } }) customer_frames order_frames ≡ None }
+    ensures bad_plan { refusal_of (record inner_query { plan = record DEFAULT_PLAN { partitions = 0 } }) customer_frames order_frames ≡ Some BadPlan }
+    ensures even_factor { refusal_of (record inner_query { plan = record DEFAULT_PLAN { pseed = 2 } }) customer_frames order_frames ≡ Some BadPlan }
+    ensures too_large { refusal_of (record inner_query { plan = record DEFAULT_PLAN { rows = 2 } }) customer_frames order_frames ≡ Some TooLarge }
+    ensures too_large_unchecked { checked_refusal (record inner_query { plan = record DEFAULT_PLAN { rows = 2 } }) customer_frames order_frames ≡ None }
+    ensures just_fits { refusal_of (record inner_query { plan = record DEFAULT_PLAN { rows = 3 } }) customer_frames order_frames ≡ None }
 {}
 
 /// What the engine does not answer today, which comes before the length of the joined list.
 pub fn not_built_examples()
-    ensures kept_rows { refusal_of (record inner_query { keep_probe = true; plan = record default_plan { rows = 2 } }) customer_frames order_frames ≡ Some NotBuilt }
+    ensures kept_rows { refusal_of (record inner_query { keep_probe = true; plan = record DEFAULT_PLAN { rows = 2 } }) customer_frames order_frames ≡ Some NotBuilt }
     ensures least { refusal_of (record inner_query { reductions = reduction Min (probe_column (codes "amt")) ∷ [] }) customer_frames order_frames ≡ Some NotBuilt }
     ensures other_sum { refusal_of (record inner_query { probe_schema = field (codes "cust") Int64 ∷ field (codes "amt") Int8 ∷ [] }) [] [] ≡ Some NotBuilt }
     ensures no_reduction { refusal_of (record inner_query { reductions = [] }) customer_frames order_frames ≡ Some NotBuilt }

@@ -1,14 +1,14 @@
-//! Queries, and what their answers are: the nested-loop rows, the groups, the two answer tables and the first refusal.
+//! What a query's answer is: the nested-loop rows, the groups, the two answer tables and the first refusal.
 #![tactic(auto)]
 
-mod error;
 mod examples;
-mod query;
 
-pub use error::QueryError;
 pub use examples::{
     filter_example, inner_join_example, not_built_examples, null_key_example, outer_join_example,
     refusal_examples, report_example,
 };
-pub use query::{ColumnRef, Filter, FilterOp, IntLiteral, Operand, Plan, Query, Reduction, Side};
-pub use reduce_model::ReductionKind;
+pub use join_query::{
+    ColumnRef, DEFAULT_PLAN, Filter, FilterOp, IntLiteral, MAX_LIMIT, MAX_MORSEL, MAX_PARTITIONS,
+    MAX_ROWS, MAX_STATES, Operand, Plan, Query, QueryError, Reduction, ReductionKind, SIDE_LIMIT,
+    Side, kind_name, side_prefix,
+};

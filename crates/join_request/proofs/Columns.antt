@@ -9,7 +9,8 @@ use Rattle.col_core.specs.declared.leaf.Leaf.{Leaf}
 use Rattle.col_core.specs.declared.leaf.Leaf.TheVariants as leaves
 use Rattle.col_core.specs.Values.{value_at}
 use Rattle.col_core.specs.Tables.{Row, Column, column_of, header, values_of, rows_from}
-use Rattle.col_core.proofs.Rows.{transposed, map_agree_on}
+use Rattle.list_laws.proofs.Maps.{map_agree_on}
+use Rattle.col_core.proofs.Rows.{transposed}
 use Rattle.serde_json.specs.View.{items_view}
 use Rattle.serde_json.specs.declared.value.Value.{Value}
 use Rattle.join_request.specs.Json.{each}

@@ -11,6 +11,7 @@ use Rattle.col_core.specs.declared.leaf.Leaf.{Leaf}
 use Rattle.col_core.specs.declared.schema.Field.{Field}
 use Rattle.col_core.specs.Values.{value_at}
 use Rattle.col_core.specs.Tables.{Row, Growing, column_of}
+use Rattle.list_laws.proofs.Halves.{both as both_true}
 use Rattle.join_request.specs.Json.{each}
 use Rattle.join_request.specs.Refused.{Refuses}
 use Rattle.join_request.specs.declared.error.RequestError.{RequestError}
@@ -120,14 +121,10 @@ wide_list n (string s) h = absurd (cc)
 wide_list n (array ds) h = (ds, refl, grind (arith, nat_tests))
 wide_list n (object ms) h = absurd (cc)
 
-and_parts : (a b : Bool) → (a && b) ≡ true → (a ≡ true) × (b ≡ true)
-and_parts true b h = (refl, h)
-and_parts false b h = absurd (cc)
-
 pub some_rows : (schema : List Field) (ds : Items) → are_wide (length schema) ds ≡ true → ((i : ℕ) (f : Field) → slice_get schema i ≡ Some f → IsSome (each (leaf_in i f.dtype) ds)) → IsSome (each (row_of_value schema) ds)
 some_rows schema no_items w h = refl
 some_rows schema (item d ds) w h =
-    let wide = and_parts (is_wide (length schema) d) (are_wide (length schema) ds) w in
+    let wide = both_true (is_wide (length schema) d) (are_wide (length schema) ds) w in
     let l = wide_list (length schema) d wide.0 in
     let here : (i : ℕ) (f : Field) → slice_get schema i ≡ Some f → IsSome (leaf_in i f.dtype d) = λ i f e. (some_parts (leaf_in i f.dtype d) (each (leaf_in i f.dtype) ds) (λ v vs. v ∷ vs) (h i f e)).0 in
     let row : IsSome (row_of_value schema d) = subst (λ (x : Data). IsSome (row_of_value schema x)) (sym l.1) (some_row schema l.0 l.2 (λ i f e. subst (λ (x : Data). IsSome (leaf_in i f.dtype x)) l.1 (here i f e))) in

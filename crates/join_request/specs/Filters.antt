@@ -4,13 +4,13 @@ use Rattle.serde_json.specs.Data.{Data, null, string}
 use Rattle.serde_json.specs.Find.{as_str}
 use Rattle.col_core.specs.declared.data_type.DataType.{DataType}
 use Rattle.col_core.specs.declared.data_type.DataType.TheVariants.{Int8, Int16, Int32, Int64, UInt8, UInt16, UInt32, UInt64}
-use Rattle.join_model.specs.declared.query.FilterOp.{FilterOp}
-use Rattle.join_model.specs.declared.query.FilterOp.TheVariants.{Eq, Ne, Lt, Le, Gt, Ge}
-use Rattle.join_model.specs.declared.query.IntLiteral.{IntLiteral}
-use Rattle.join_model.specs.declared.query.IntLiteral.TheVariants.{I8, I16, I32, I64, U8, U16, U32, U64}
-use Rattle.join_model.specs.declared.query.Operand.{Operand}
-use Rattle.join_model.specs.declared.query.Operand.TheVariants.{Column, Literal}
-use Rattle.join_model.specs.declared.query.Filter.{Filter}
+use Rattle.join_query.specs.declared.query.FilterOp.{FilterOp}
+use Rattle.join_query.specs.declared.query.FilterOp.TheVariants.{Eq, Ne, Lt, Le, Gt, Ge}
+use Rattle.join_query.specs.declared.query.IntLiteral.{IntLiteral}
+use Rattle.join_query.specs.declared.query.IntLiteral.TheVariants.{I8, I16, I32, I64, U8, U16, U32, U64}
+use Rattle.join_query.specs.declared.query.Operand.{Operand}
+use Rattle.join_query.specs.declared.query.Operand.TheVariants.{Column, Literal}
+use Rattle.join_query.specs.declared.query.Filter.{Filter}
 use Rattle.join_request.specs.Json.{◌>>=◌, named, only_member, triple_of}
 use Rattle.join_request.specs.Types.{type_of_text}
 use Rattle.join_request.specs.Leaves.{integer_of_value}

@@ -1,14 +1,16 @@
 -- The parts of a request: its sides, the join, columns and reductions.
-use Rattle.std.specs.Prelude.{ℕ, List, [], ◌∷◌, drop, length, Bool, false, if◌then◌else◌, nat_eq, codes, Option, Some, None}
+use Rattle.std.specs.Prelude.{ℕ, List, [], ◌∷◌, map, drop, length, Bool, false, if◌then◌else◌, nat_eq, codes, Option, Some, None, option_map}
 use Rattle.std.specs.List.{starts_with}
+use Rattle.std.specs.Option.{option_or}
 use Rattle.serde_json.specs.Data.{Data}
 use Rattle.serde_json.specs.Find.{get, as_bool, as_str}
 use Rattle.reduce_model.specs.declared.kind.ReductionKind.{ReductionKind}
 use Rattle.reduce_model.specs.declared.kind.ReductionKind.TheVariants as kinds
-use Rattle.join_model.specs.declared.query.Side.{Side}
-use Rattle.join_model.specs.declared.query.Side.TheVariants.{Build, Probe}
-use Rattle.join_model.specs.declared.query.ColumnRef.{ColumnRef}
-use Rattle.join_model.specs.declared.query.Reduction.{Reduction}
+use Rattle.join_query.specs.declared.query.Side.{Side}
+use Rattle.join_query.specs.declared.query.Side.TheVariants.{Build, Probe}
+use Rattle.join_query.specs.declared.query.ColumnRef.{ColumnRef}
+use Rattle.join_query.specs.declared.query.Reduction.{Reduction}
+use Rattle.join_query.specs.Names.{side_prefix, kind_name}
 use Rattle.join_request.specs.Json.{◌>>=◌, object_of, or_default, list_of, pair_of, named}
 use Rattle.join_request.specs.Schemas.{schema_of_value}
 use Rattle.join_request.specs.Frames.{frames_of_value}
@@ -42,15 +44,16 @@ join_of_value d = do
   keep_build ← flag_of (get (codes "keep_build") join)
   Some (record { build = build; probe = probe; null_equal = null_equal; keep_probe = keep_probe; keep_build = keep_build })
 
--- the column of a side whose name follows the text that stands in front
-abbrev pub column_after : List ℕ → Side → List ℕ → ColumnRef
-column_after front side text = record { side = side; name = drop (length front) text }
+-- the name after the prefix of a side
+abbrev pub name_on : Side → List ℕ → Option (List ℕ)
+name_on side text = if starts_with nat_eq text (side_prefix side) then Some (drop (length (side_prefix side)) text) else None
 
--- a column: a text that begins with its side and a dot; all that follows is its name
+abbrev pub column_on : Side → List ℕ → Option ColumnRef
+column_on side text = option_map (λ name. record { side = side; name = name }) (name_on side text)
+
+-- a column: a text that begins with the prefix of its side; all that follows is its name
 abbrev pub column_of_text : List ℕ → Option ColumnRef
-column_of_text text =
-    if starts_with nat_eq text (codes "build.") then Some (column_after (codes "build.") Build text) else
-    (if starts_with nat_eq text (codes "probe.") then Some (column_after (codes "probe.") Probe text) else None)
+column_of_text text = option_or (column_on Build text) (column_on Probe text)
 
 abbrev pub column_of_value : Data → Option ColumnRef
 column_of_value d = as_str d >>= column_of_text
@@ -61,7 +64,7 @@ columns_of_value d = list_of column_of_value d
 
 -- the reduction that a word names
 abbrev pub kind_of_text : List ℕ → Option ReductionKind
-kind_of_text text = named ((codes "sum", kinds.Sum) ∷ (codes "min", kinds.Min) ∷ (codes "max", kinds.Max) ∷ (codes "first", kinds.First) ∷ (codes "last", kinds.Last) ∷ []) text
+kind_of_text text = named (map (λ kind. (kind_name kind, kind)) (kinds.Sum ∷ kinds.Min ∷ kinds.Max ∷ kinds.First ∷ kinds.Last ∷ [])) text
 
 -- a reduction: a pair of its kind and its column
 abbrev pub reduction_of_value : Data → Option Reduction

@@ -7,7 +7,8 @@ use Rattle.serde_json.specs.Written.{has_float}
 use Rattle.join_request.specs.Json.{◌>>=◌, value_of, object_of, or_default}
 use Rattle.join_request.specs.Parts.{side_of_value, join_of_value, columns_of_value, reductions_of_value}
 use Rattle.join_request.specs.Filters.{filter_of_value}
-use Rattle.join_request.specs.Plans.{default_plan, plan_of_value}
+use Rattle.join_query.specs.declared.limits.TheConstants.{DEFAULT_PLAN}
+use Rattle.join_request.specs.Plans.{plan_of_value}
 use Rattle.join_request.specs.declared.error.RequestError.{RequestError}
 use Rattle.join_request.specs.declared.error.RequestError.TheVariants.{NotJson, Float, Shape}
 use Rattle.join_request.specs.declared.parts.RequestSide.{RequestSide}
@@ -21,7 +22,7 @@ query_of_object request = do
   filter ← or_default None filter_of_value (get (codes "filter") request)
   group ← get (codes "group") request >>= columns_of_value
   reduce ← get (codes "reduce") request >>= reductions_of_value
-  plan ← or_default default_plan plan_of_value (get (codes "plan") request)
+  plan ← or_default DEFAULT_PLAN plan_of_value (get (codes "plan") request)
   Some (record { join = join; filter = filter; group = group; reduce = reduce; plan = plan })
 
 -- the query of two schemas and these parts, and the frames

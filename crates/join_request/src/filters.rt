@@ -6,12 +6,13 @@ ghost use Rattle.join_request.specs.Filters.{op_of_text, literal_of, literal_of_
 ghost use Rattle.join_request.specs.Refused.{Refuses};
 
 use crate::error::RequestError;
+use crate::from_value::FromValue;
+use crate::json::{only_member, read_text, read_triple};
 use crate::leaves::read_integer;
 use crate::parts::column_named;
 use crate::types::type_named;
-use crate::values::{FromValue, only_member, read_text, read_triple};
 use col_core::DataType;
-use join_model::{ColumnRef, Filter, FilterOp, IntLiteral, Operand};
+use join_query::{ColumnRef, Filter, FilterOp, IntLiteral, Operand};
 use serde_json::Value;
 use std::alloc::Global;
 

@@ -8,7 +8,7 @@ ghost use Rattle.join_request.specs.Leaves.{range_of, integer_of_value, without_
 ghost use Rattle.join_request.specs.Refused.{Refuses};
 
 use crate::error::RequestError;
-use crate::values::read_text;
+use crate::json::read_text;
 use col_core::{Blob, DataType, Leaf};
 use hex::FromHexError;
 use serde_json::{Number, Value};

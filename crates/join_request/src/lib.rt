@@ -4,13 +4,14 @@
 mod error;
 mod filters;
 mod frames;
+mod from_value;
+mod json;
 mod leaves;
 mod parts;
 mod plans;
 mod reader;
 mod schemas;
 mod types;
-mod values;
 
 pub use error::RequestError;
 pub use reader::{Request, read_request};

@@ -1,15 +1,16 @@
 //! The parts of a request: its sides, the join, columns and reductions.
-ghost use Rattle.std.specs.Prelude.{◌≡◌, IfOk, IfErr, Some};
+ghost use Rattle.std.specs.Prelude.{◌≡◌, IfOk, IfErr, Some, option_map};
 ghost use Rattle.serde_json.specs.View.{view};
-ghost use Rattle.join_request.specs.Parts.{side_of_value, join_of_value, column_of_text, kind_of_text};
+ghost use Rattle.join_request.specs.Parts.{side_of_value, join_of_value, name_on, column_of_text, kind_of_text};
 ghost use Rattle.join_request.specs.Refused.{Refuses};
 
 use crate::error::RequestError;
 use crate::frames::read_frames;
+use crate::from_value::{FromValue, member_or, read_list};
+use crate::json::{member, object_named, read_pair, read_text};
 use crate::schemas::read_schema;
-use crate::values::{FromValue, member, member_or, object_named, read_list, read_pair, read_text};
 use col_core::{Frame, List, Name, Schema};
-use join_model::{ColumnRef, Reduction, ReductionKind, Side};
+use join_query::{ColumnRef, Reduction, ReductionKind, Side, side_prefix};
 use serde_json::Value;
 use std::alloc::Global;
 
@@ -77,14 +78,21 @@ impl FromValue for ColumnRef {
     }
 }
 
-/// The column that a text names, with its side and a dot in front.
+/// The name after the prefix of a side.
+fn name_on(side: Side, text: &str) -> Option<&str>
+    ensures { option_map (λ name. name.now) result ≡ name_on side text.now }
+{
+    text.strip_prefix(side_prefix(side))
+}
+
+/// The column that a text names, after the prefix of its side.
 pub fn column_named(alloc: Global, text: &str) -> Result<ColumnRef, RequestError>
     ensures ok { IfOk result (λ column. column_of_text text.now ≡ Some column) }
     ensures err { IfErr result (Refuses (column_of_text text.now)) }
 {
-    let (side, name) = if let Some(name) = text.strip_prefix("build.") {
+    let (side, name) = if let Some(name) = name_on(Side::Build, text) {
         (Side::Build, name)
-    } else if let Some(name) = text.strip_prefix("probe.") {
+    } else if let Some(name) = name_on(Side::Probe, text) {
         (Side::Probe, name)
     } else {
         return Err(RequestError::Shape);

@@ -1,30 +1,10 @@
 //! Plans: whole numbers, each with a default.
-ghost use Rattle.std.specs.Prelude.{◌≡◌, IfOk, IfErr, Some};
-ghost use Rattle.serde_json.specs.View.{view};
-ghost use Rattle.join_request.specs.Plans.{default_plan, plan_of_value};
-ghost use Rattle.join_request.specs.Refused.{Refuses};
-
 use crate::error::RequestError;
-use crate::values::{FromValue, member_or, object_named};
-use join_model::Plan;
+use crate::from_value::{FromValue, member_or};
+use crate::json::object_named;
+use join_query::{DEFAULT_PLAN, Plan};
 use serde_json::Value;
 use std::alloc::Global;
-
-/// The plan of a request that names none.
-pub fn default_plan() -> Plan
-    ensures { result ≡ default_plan }
-{
-    Plan {
-        partitions: 8,
-        states: 4,
-        limit: 4096,
-        morsel: 65536,
-        rows: 4294967295,
-        seed: 0xcbf29ce484222325,
-        mask: u64::MAX,
-        pseed: 0x9E3779B97F4A7C15,
-    }
-}
 
 impl FromValue for Plan {
     ghost use Rattle.join_request.specs.Plans.{plan_of_value};
@@ -43,7 +23,7 @@ impl FromValue for Plan {
             "pseed",
         ];
         let plan = object_named(value, &names)?;
-        let default = default_plan();
+        let default = DEFAULT_PLAN;
         Ok(Plan {
             partitions: member_or(alloc, plan, "partitions", default.partitions)?,
             states: member_or(alloc, plan, "states", default.states)?,

@@ -5,11 +5,11 @@ ghost use Rattle.join_request.specs.Request.{request_of, request_without_floats,
 ghost use Rattle.join_request.specs.Refused.{Refuses};
 
 use crate::error::RequestError;
+use crate::from_value::{member_or, read_list};
+use crate::json::{holds_float, member, object_named, read_value};
 use crate::parts::{RequestJoin, RequestSide, read_join, read_side};
-use crate::plans::default_plan;
-use crate::values::{holds_float, member, member_or, object_named, read_list, read_value};
 use col_core::{Frame, List};
-use join_model::{ColumnRef, Filter, Plan, Query, Reduction};
+use join_query::{ColumnRef, DEFAULT_PLAN, Filter, Plan, Query, Reduction};
 use serde_json::Value;
 use std::alloc::Global;
 
@@ -75,7 +75,7 @@ fn query_of_object(alloc: Global, request: &Value) -> Result<QueryParts, Request
         filter: member_or(alloc, request, "filter", None)?,
         group: read_list(alloc, member(request, "group")?)?,
         reduce: read_list(alloc, member(request, "reduce")?)?,
-        plan: member_or(alloc, request, "plan", default_plan())?,
+        plan: member_or(alloc, request, "plan", DEFAULT_PLAN)?,
     })
 }
 

@@ -5,8 +5,9 @@ ghost use Rattle.join_request.specs.Schemas.{schema_of_value};
 ghost use Rattle.join_request.specs.Refused.{Refuses};
 
 use crate::error::RequestError;
+use crate::from_value::{FromValue, read_list};
+use crate::json::{read_pair, read_text};
 use crate::types::type_named;
-use crate::values::{FromValue, read_list, read_pair, read_text};
 use col_core::{Field, Name, Schema};
 use serde_json::Value;
 use std::alloc::Global;

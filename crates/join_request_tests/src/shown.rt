@@ -1,6 +1,6 @@
 //! Requests as text.
 use col_core::{Frame, Leaf, List, Name, Schema};
-use join_model::{ColumnRef, Filter, IntLiteral, Operand, Plan, Query};
+use join_query::{ColumnRef, Filter, IntLiteral, Operand, Plan, Query};
 use join_request::Request;
 use std::alloc::Global;
 use std::fmt::Write;

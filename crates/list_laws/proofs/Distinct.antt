@@ -1,18 +1,19 @@
 -- The distinct keys of a list, and a value for each key, as one more row comes.
-use Rattle.std.proofs.Common.{◌≡◌, ℕ, zero, suc, ◌+◌, ◌<◌, Bool, true, false, ◌||◌, cond, List, [], ◌∷◌, ◌++◌, map, filter, length, get_or, set, fold, refl, sym, ap, ◌∙◌, subst, inl, inr, arith}
+use Rattle.std.proofs.Common.{◌≡◌, ℕ, zero, suc, ◌+◌, ◌<◌, Bool, true, false, ◌||◌, cond, List, [], ◌∷◌, ◌++◌, map, filter, length, drop, get_or, set, fold, refl, sym, ap, ◌∙◌, subst, inl, inr, arith}
 use Rattle.std.specs.Bool.{Decides}
 use Rattle.std.specs.List.{list_any, All}
 use Rattle.std.proofs.lemmas.Bool.{false≢true, cases_Bool}
-use Rattle.std.proofs.lemmas.List.{map-append}
+use Rattle.std.proofs.lemmas.List.{map-append, drop_more}
 use Rattle.std.proofs.lemmas.List.Elements.{filter-append, All-push, All-head, All-tail, All-nil}
-use Rattle.std.proofs.lemmas.List.Sums.{fold_push, fold-append}
-use Rattle.list_laws.specs.Distinct.{with_new, NoRepeat}
+use Rattle.std.proofs.lemmas.List.Sums.{fold_push}
+use Rattle.list_laws.specs.Distinct.{with_new, has_repeat, NoRepeat}
+use Rattle.list_laws.proofs.Halves.{neither}
+
+-- an item with those after it
+pub has_repeat-drop : {K : Type 0} (E : K → K → Bool) (xs : List K) (i : ℕ) (x : K) → i < length xs → x ≡ get_or xs i x → has_repeat E (drop i xs) ≡ (list_any (λ y. E y x) (drop (i + 1) xs) || has_repeat E (drop (i + 1) xs))
+has_repeat-drop E xs i x h e = ap (has_repeat E) (drop_more xs i x h) ∙ ap (λ y. list_any (λ z. E z y) (drop (i + 1) xs) || has_repeat E (drop (i + 1) xs)) (sym e)
 
 module _ {K : Type 0} (E : K → K → Bool) (dec : (a b : K) → Decides (E a b) (a ≡ b)) where
-  or_false : (a b : Bool) → (a || b) ≡ false → (a ≡ false) × (b ≡ false)
-  or_false true b h = absurd (false≢true (sym h))
-  or_false false b h = (refl, h)
-
   E_sym : (a b : K) → E a b ≡ false → E b a ≡ false
   E_sym a b h = elim (E b a) as (λ v. E b a ≡ v → v ≡ false) [
     | true ↦ λ e. absurd (false≢true (sym h ∙ (dec a b).1 (sym ((dec b a).0 e))))
@@ -23,20 +24,20 @@ module _ {K : Type 0} (E : K → K → Bool) (dec : (a b : K) → Decides (E a b
   pub no_repeat_push : (xs : List K) (k : K) → NoRepeat E xs → list_any (λ s. E s k) xs ≡ false → NoRepeat E (xs ++ k ∷ [])
   no_repeat_push [] k n h = (refl, tt)
   no_repeat_push (x ∷ xs) k n h =
-      let both = or_false (E x k) (list_any (λ s. E s k) xs) h in
+      let both = neither (E x k) (list_any (λ s. E s k) xs) h in
       (apart xs n.0, no_repeat_push xs k n.1 both.1)
     where
       apart : (ys : List K) → list_any (λ s. E s x) ys ≡ false → list_any (λ s. E s x) (ys ++ k ∷ []) ≡ false
-      apart [] g = ap (λ (b : Bool). b || false) (E_sym x k (or_false (E x k) (list_any (λ s. E s k) xs) h).0)
+      apart [] g = ap (λ (b : Bool). b || false) (E_sym x k (neither (E x k) (list_any (λ s. E s k) xs) h).0)
       apart (y ∷ ys) g =
-          let both = or_false (E y x) (list_any (λ s. E s x) ys) g in
+          let both = neither (E y x) (list_any (λ s. E s x) ys) g in
           rw both.0 (apart ys both.1)
 
   -- what is among no keys differs from each
   pub differs_at : (xs : List K) (k : K) (i : ℕ) (d : K) → list_any (λ s. E s k) xs ≡ false → i < length xs → E (get_or xs i d) k ≡ false
   differs_at [] k i d h l = absurd (omega arith)
-  differs_at (x ∷ xs) k zero d h l = (or_false (E x k) (list_any (λ s. E s k) xs) h).0
-  differs_at (x ∷ xs) k (suc i) d h l = differs_at xs k i d (or_false (E x k) (list_any (λ s. E s k) xs) h).1 (omega arith)
+  differs_at (x ∷ xs) k zero d h l = (neither (E x k) (list_any (λ s. E s k) xs) h).0
+  differs_at (x ∷ xs) k (suc i) d h l = differs_at xs k i d (neither (E x k) (list_any (λ s. E s k) xs) h).1 (omega arith)
 
   -- where only the value of one key changes, only its place does
   pub one_changed : {V : Type 0} (f g : K → V) (k : K) → ((s : K) → E s k ≡ false → g s ≡ f s) → (xs : List K) (i : ℕ) (d : K) → NoRepeat E xs → i < length xs → E (get_or xs i d) k ≡ true → map g xs ≡ set (map f xs) i (g k)
@@ -48,7 +49,7 @@ module _ {K : Type 0} (E : K → K → Bool) (dec : (a b : K) → Decides (E a b
       rest : (ys : List K) → list_any (λ s. E s k) ys ≡ false → map g ys ≡ map f ys
       rest [] q = refl
       rest (y ∷ ys) q =
-          let both = or_false (E y k) (list_any (λ s. E s k) ys) q in
+          let both = neither (E y k) (list_any (λ s. E s k) ys) q in
           cc (same y both.0, rest ys both.1)
   one_changed f g k same (x ∷ xs) (suc i) d n l h =
       let apart : E x k ≡ false = E_sym k x (rw (← (dec (get_or xs i d) k).0 h) (differs_at xs x i d n.0 (omega arith))) in
@@ -151,7 +152,7 @@ module _ {K : Type 0} (E : K → K → Bool) (dec : (a b : K) → Decides (E a b
         none : (rows : List R) → list_any (λ s. E s k) (map key rows) ≡ false → filter (λ r. E (key r) k) rows ≡ []
         none [] h = refl
         none (x ∷ xs) h =
-            let both = or_false (E (key x) k) (list_any (λ s. E s k) (map key xs)) h in
+            let both = neither (E (key x) k) (list_any (λ s. E s k) (map key xs)) h in
             rw both.0 (none xs both.1)
 
     -- a row whose key is at place g
@@ -170,5 +171,5 @@ module _ {K : Type 0} (E : K → K → Bool) (dec : (a b : K) → Decides (E a b
         others : (ys : List K) → list_any (λ s. E s (key r)) ys ≡ false → map (total_for (rows ++ r ∷ [])) ys ≡ map (total_for rows) ys
         others [] q = refl
         others (y ∷ ys) q =
-            let both = or_false (E y (key r)) (list_any (λ s. E s (key r)) ys) q in
+            let both = neither (E y (key r)) (list_any (λ s. E s (key r)) ys) q in
             cc (total_other rows r y (E_sym y (key r) both.0), others ys both.1)

@@ -1,1 +1,14 @@
+pub mod Halves
+pub mod Each
+pub mod Filters
+pub mod Maps
+pub mod Positions
+pub mod Pointwise
+pub mod Places
 pub mod Distinct
+pub mod Keys
+pub mod Buckets
+pub mod Ascending
+pub mod Ranges
+pub mod Orders
+pub mod Runs

@@ -1,1 +1,6 @@
+pub mod Each
 pub mod Distinct
+pub mod Ascending
+pub mod Orders
+pub mod Runs
+pub mod Places

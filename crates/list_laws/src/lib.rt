@@ -1,2 +1,3 @@
-//! Words and laws about lists that know nothing of columns: the distinct items of a list by first appearance, and a value for each of them.
+//! Words and laws about lists that know nothing of columns: what holds of each item and place by place, filters and
+//! maps, distinct items by first appearance, classes and orders of items, numbers that rise, runs.
 #![tactic(auto)]

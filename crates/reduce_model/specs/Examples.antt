@@ -1,5 +1,5 @@
 -- Words for worked answers.
-use Rattle.std.specs.Prelude.{ℕ, ℤ, pos, neg_ℤ, List, codes}
+use Rattle.std.specs.Prelude.{ℕ, pos, neg_ℤ, List}
 use Rattle.col_core.specs.declared.leaf.Leaf.{Leaf}
 use Rattle.col_core.specs.declared.leaf.Leaf.TheVariants as leaves
 

@@ -1,49 +1,52 @@
 -- What a reduction gives for the values of a group, in their order.
-use Rattle.std.specs.Prelude.{ℕ, ℤ, pos, ◌+ℤ◌, ◌-◌, ◌^◌, unsigned_abs, Bool, true, false, if◌then◌else◌, List, fold, length}
-use Rattle.std.specs.Int.{int_wrap, int_rem_euclid, w32, w64, w128}
+use Rattle.std.specs.Prelude.{ℤ, pos, ◌+ℤ◌, ◌-◌, Bool, true, false, List, fold, length}
+use Rattle.std.specs.Int.{w32, w64, w128}
+use Rattle.std.specs.declared.cmp.Ordering.{Ordering}
+use Rattle.std.specs.Ordering.{flip_args}
+use Rattle.num_traits.specs.Laws.{wrap_signed, wrap_unsigned}
 use Rattle.col_core.specs.declared.leaf.Leaf.{Leaf}
 use Rattle.col_core.specs.declared.leaf.Leaf.TheVariants as leaves
 use Rattle.col_core.specs.declared.data_type.DataType.{DataType}
-use Rattle.col_core.specs.declared.data_type.DataType.TheVariants.{Boolean, Int8, Int16, Int32, Int64, UInt8, UInt16, UInt32, UInt64, Int128, Decimal, Date, Time, Datetime, Duration, String, Binary}
+use Rattle.col_core.specs.declared.data_type.DataType.TheVariants.{Boolean, Int8, Int16, Int32, Int64, UInt8, UInt16, UInt32, UInt64, Int128, Decimal, Date, Time, Datetime, String, Binary}
 use Rattle.col_core.specs.Values.{value_at}
 use Rattle.reduce_model.specs.declared.kind.ReductionKind.{ReductionKind}
 use Rattle.reduce_model.specs.declared.kind.ReductionKind.TheVariants as kinds
-use Rattle.reduce_model.specs.Orders.{leaf_lt, leaf_gt}
-
--- what is left of a whole number in an unsigned type of so many bits
-abbrev pub wrap_unsigned : ℕ → ℤ → ℤ
-wrap_unsigned bits z = pos (unsigned_abs (int_rem_euclid z (pos (2 ^ bits))))
+use Rattle.reduce_model.specs.Orders.{leaf_cmp, least_by}
 
 -- what is left of a sum in the type that keeps it: 32 bits and unsigned 64 bits in their own type, decimals in 128 bits, all others in 64 bits
 abbrev pub wrap_in : DataType → ℤ → ℤ
-wrap_in Int32 z = int_wrap w32 z
+wrap_in Int32 z = wrap_signed w32 z
 wrap_in UInt32 z = wrap_unsigned 32 z
 wrap_in UInt64 z = wrap_unsigned 64 z
-wrap_in (Decimal p s) z = int_wrap w128 z
-wrap_in _ z = int_wrap w64 z
+wrap_in (Decimal p s) z = wrap_signed w128 z
+wrap_in _ z = wrap_signed w64 z
 
 -- a sum and one more value; a null adds nothing
 abbrev pub add_value : DataType → ℤ → Leaf → ℤ
 add_value t total (leaves.Whole z) = wrap_in t (total +ℤ z)
 add_value t total _ = total
 
--- the sum of values: from 0, each addition wrapping; over text and bytes null
-abbrev pub sum_of : DataType → List Leaf → Leaf
-sum_of String values = leaves.Null
-sum_of Binary values = leaves.Null
-sum_of t values = leaves.Whole (fold (add_value t) (pos 0) values)
+-- a sum as a value; over text and bytes it is null
+abbrev pub sum_leaf : DataType → ℤ → Leaf
+sum_leaf String z = leaves.Null
+sum_leaf Binary z = leaves.Null
+sum_leaf _ z = leaves.Whole z
 
--- the better of two values under an order: a null gives way, and of two equal ones the first stays
-abbrev pub better : (Leaf → Leaf → Bool) → Leaf → Leaf → Leaf
-better before leaves.Null value = value
-better before best leaves.Null = best
-better before best value = if before value best then value else best
+-- the sum of values: from 0, each addition wrapping
+abbrev pub sum_of : DataType → List Leaf → Leaf
+sum_of t values = sum_leaf t (fold (add_value t) (pos 0) values)
+
+-- the better of two values under an order: a null gives way, and of two that tie the first stays
+abbrev pub better : (Leaf → Leaf → Ordering) → Leaf → Leaf → Leaf
+better order leaves.Null value = value
+better order best leaves.Null = best
+better order best value = least_by order best value
 
 -- what a reduction gives: the sum; the least or greatest present value, or null; the first or last value, nulls included
 abbrev pub fold_of : ReductionKind → DataType → List Leaf → Leaf
 fold_of kinds.Sum t values = sum_of t values
-fold_of kinds.Min t values = fold (better leaf_lt) leaves.Null values
-fold_of kinds.Max t values = fold (better leaf_gt) leaves.Null values
+fold_of kinds.Min t values = fold (better leaf_cmp) leaves.Null values
+fold_of kinds.Max t values = fold (better (flip_args leaf_cmp)) leaves.Null values
 fold_of kinds.First t values = value_at values 0
 fold_of kinds.Last t values = value_at values (length values - 1)
 

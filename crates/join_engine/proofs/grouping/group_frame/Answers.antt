@@ -4,9 +4,9 @@ use Rattle.col_core.specs.declared.leaf.Leaf.{Leaf}
 use Rattle.col_core.specs.declared.data_type.DataType.{DataType}
 use Rattle.col_core.specs.Values.{Fits, value_at}
 use Rattle.col_core.specs.Tables.{Table}
-use Rattle.join_model.specs.declared.query.ColumnRef.{ColumnRef}
-use Rattle.join_model.specs.declared.query.Reduction.{Reduction}
-use Rattle.join_model.specs.Filtered.{ref_value}
+use Rattle.join_query.specs.declared.query.ColumnRef.{ColumnRef}
+use Rattle.join_query.specs.declared.query.Reduction.{Reduction}
+use Rattle.join_model.specs.ColumnRefs.{ref_value}
 use Rattle.join_engine.specs.declared.totals.Entry.{Entry}
 use Rattle.join_engine.specs.Totals.{entries_of}
 use Rattle.join_engine.proofs.Grouped.{keys_fit}

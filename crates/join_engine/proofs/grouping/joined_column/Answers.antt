@@ -2,9 +2,9 @@ use Rattle.std.proofs.Common.{◌≡◌, slice_get, Some, true, is_some, subst, 
 use Rattle.col_core.specs.declared.schema.Field.{Field}
 use Rattle.col_core.specs.Schemas.{type_named, field_position}
 use Rattle.col_core.specs.Tables.{header}
-use Rattle.join_model.specs.declared.query.Side.{Side}
-use Rattle.join_model.specs.Filtered.{schema_of}
+use Rattle.join_query.specs.declared.query.Side.{Side}
 use Rattle.join_model.specs.Answers.{joined_schema}
+use Rattle.join_model.specs.ColumnRefs.{schema_of}
 use Rattle.join_engine.proofs.Columns.{position_is_some, probe_type, build_type}
 use Rattle.join_engine.proofs.grouping.joined_column.Goals as goal
 use Rattle.join_engine.proofs.grouping.joined_column.Goals.{in-Probe, in-Build}

@@ -1,0 +1,8 @@
+//! Keys of rows with their hashes.
+#![tactic(auto)]
+
+mod keys;
+mod row_encoded;
+
+pub use keys::HashKeys;
+pub use row_encoded::RowEncodedKeys;

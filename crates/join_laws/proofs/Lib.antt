@@ -1,0 +1,12 @@
+pub mod Entries
+pub mod Locals
+pub mod Groups
+pub mod Steps
+pub mod Merges
+pub mod Bounds
+pub mod Deals
+pub mod Pairs
+pub mod Unmatched
+pub mod BuildOrder
+pub mod Inserts
+pub mod Parts

@@ -1,0 +1,3 @@
+pub use Rattle.reduce_model.specs.Folds
+pub use Rattle.reduce_model.specs.Orders
+pub mod Names

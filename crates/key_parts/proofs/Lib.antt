@@ -1,0 +1,3 @@
+pub mod Sketches
+pub mod Partitions
+pub mod Positions

@@ -1,0 +1,4 @@
+pub mod Hashes
+pub mod Partitions
+pub mod Sketches
+pub mod Positions

@@ -1,0 +1,5 @@
+//! Tests of hashes, partitions, sketches and positions at concrete values.
+#![tactic(auto)]
+
+#[cfg(test)]
+mod tests;

@@ -1,0 +1,202 @@
+//! The causes of a refusal, in their order.
+ghost use Rattle.std.specs.Prelude.{◌≡◌, not};
+ghost use Rattle.std.specs.List.{list_any};
+ghost use Rattle.std.specs.Result.{result_err};
+ghost use Rattle.reduce_model.specs.Folds.{has_no_sum, is_unsupported};
+ghost use Rattle.join_model.specs.ColumnRefs.{ref_type};
+ghost use Rattle.join_model.specs.Refusals.{lacks_keys, unsupported_reduction, is_integer, filter_is_unsupported, is_good_plan, is_int64, is_key_not_built, is_group_type, is_group_not_built, is_one_sum, is_not_built, is_too_large, checked_refusal};
+
+use crate::columns::{ref_type, type_under, unknown_column};
+use crate::schemas::schemas_differ;
+use col_core::{DataType, Frame, Name, Schema};
+use join_model::{
+    ColumnRef, MAX_LIMIT, MAX_MORSEL, MAX_PARTITIONS, MAX_ROWS, MAX_STATES, Plan, Query,
+    QueryError, Reduction, ReductionKind, SIDE_LIMIT,
+};
+
+fn lacks_keys(query: &Query) -> bool
+    ensures { result ≡ lacks_keys query.now }
+{
+    query.build_keys.as_slice().is_empty()
+        || query.probe_keys.as_slice().is_empty()
+        || query.group_keys.as_slice().is_empty()
+}
+
+fn has_no_sum(dtype: DataType) -> bool
+    ensures { result ≡ has_no_sum dtype }
+{
+    matches!(
+        dtype,
+        DataType::Boolean
+            | DataType::Int128
+            | DataType::Date
+            | DataType::Time
+            | DataType::Datetime(_)
+    )
+}
+
+fn is_unsupported(kind: ReductionKind, dtype: DataType) -> bool
+    ensures { result ≡ is_unsupported kind dtype }
+{
+    matches!(kind, ReductionKind::Sum) && has_no_sum(dtype)
+}
+
+// The place of the first reduction that there is not.
+fn unsupported_reduction(query: &Query) -> Option<usize>
+    ensures { result ≡ unsupported_reduction query.now }
+{
+    let reductions = query.reductions.as_slice();
+    reductions.iter().position(|reduction| is_unsupported(
+        reduction.kind,
+        ref_type(query, &reduction.column),
+    ))
+}
+
+fn is_integer(dtype: DataType) -> bool
+    ensures { result ≡ is_integer dtype }
+{
+    matches!(
+        dtype,
+        DataType::Int8
+            | DataType::Int16
+            | DataType::Int32
+            | DataType::Int64
+            | DataType::UInt8
+            | DataType::UInt16
+            | DataType::UInt32
+            | DataType::UInt64
+    )
+}
+
+fn filter_is_unsupported(query: &Query) -> bool
+    ensures { result ≡ filter_is_unsupported query.now }
+{
+    match &query.filter {
+        Some(filter) => !is_integer(ref_type(query, &filter.left)),
+        None => false,
+    }
+}
+
+fn is_good_plan(plan: &Plan) -> bool
+    ensures { result ≡ is_good_plan plan.now }
+{
+    (1..=MAX_PARTITIONS).contains(&plan.partitions)
+        && (1..=MAX_STATES).contains(&plan.states)
+        && (1..=MAX_LIMIT).contains(&plan.limit)
+        && (1..=MAX_MORSEL).contains(&plan.morsel)
+        && (1..=MAX_ROWS).contains(&plan.rows)
+        && plan.pseed % 2 == 1
+}
+
+fn is_int64(dtype: DataType) -> bool
+    ensures { result ≡ is_int64 dtype }
+{
+    matches!(dtype, DataType::Int64)
+}
+
+// Whether a join key has more than one column, or one that is not `Int64`.
+fn is_key_not_built(schema: &Schema, names: &[Name]) -> bool
+    ensures { result ≡ is_key_not_built schema.now names.now }
+{
+    names.len() > 1 || names.iter().any(|name| !is_int64(type_under(schema, name)))
+}
+
+fn is_group_type(dtype: DataType) -> bool
+    ensures { result ≡ is_group_type dtype }
+{
+    matches!(dtype, DataType::Int64 | DataType::String)
+}
+
+fn is_of_other_type(query: &Query, column: &ColumnRef) -> bool
+    ensures { result ≡ not (is_group_type (ref_type query.now column.now)) }
+{
+    !is_group_type(ref_type(query, column))
+}
+
+fn has_other_type(query: &Query, columns: &[ColumnRef]) -> bool
+    ensures { result ≡ list_any (λ ref. not (is_group_type (ref_type query.now ref))) columns.now }
+{
+    columns.iter().any(|column| is_of_other_type(query, column))
+}
+
+// Whether there is more than one group key, or one that is neither `Int64` nor `String`.
+fn is_group_not_built(query: &Query, columns: &[ColumnRef]) -> bool
+    ensures { result ≡ is_group_not_built query.now columns.now }
+{
+    columns.len() > 1 || has_other_type(query, columns)
+}
+
+fn is_one_sum(query: &Query, reductions: &[Reduction]) -> bool
+    ensures { result ≡ is_one_sum query.now reductions.now }
+{
+    match reductions {
+        [reduction] => matches!(reduction.kind, ReductionKind::Sum)
+            && is_int64(ref_type(query, &reduction.column)),
+        _ => false,
+    }
+}
+
+// Whether the engine does not answer such queries today.
+fn is_not_built(query: &Query) -> bool
+    ensures { result ≡ is_not_built query.now }
+{
+    is_key_not_built(&query.build_schema, query.build_keys.as_slice())
+        || is_key_not_built(&query.probe_schema, query.probe_keys.as_slice())
+        || query.null_equal
+        || query.keep_probe
+        || query.keep_build
+        || query.filter.is_some()
+        || is_group_not_built(query, query.group_keys.as_slice())
+        || !is_one_sum(query, query.reductions.as_slice())
+}
+
+// Whether a side has 2^31 or more frames or rows.
+#[tactic(auto, using(crate::proofs::Sides::rows_from_frame))]
+fn is_too_large(frames: &[Frame]) -> bool
+    ensures { result ≡ is_too_large frames.now }
+{
+    if frames.len() >= SIDE_LIMIT {
+        return true;
+    }
+    let mut rows = 0;
+    for frame in frames {
+        if frame.height() >= SIDE_LIMIT - rows {
+            return true;
+        }
+        rows += frame.height();
+    }
+    false
+}
+
+/// Whether a query over these frames is refused before any row is read: the first cause of `checked_refusal`, with its place
+/// where it has one. No memory is taken. What is left to refuse is a joined list that is longer than the plan allows.
+pub fn check_query(query: &Query, build: &[Frame], probe: &[Frame]) -> Result<(), QueryError>
+    ensures first { result_err result ≡ checked_refusal query.now build.now probe.now }
+    ensures no_memory { ¬ (result ≡ Err QueryError.Memory) }
+{
+    if lacks_keys(query) {
+        return Err(QueryError::NoKeyColumns);
+    }
+    if let Some(position) = unknown_column(query) {
+        return Err(QueryError::UnknownColumn { position });
+    }
+    if schemas_differ(query, build, probe) {
+        return Err(QueryError::SchemaMismatch);
+    }
+    if let Some(index) = unsupported_reduction(query) {
+        return Err(QueryError::UnsupportedReduction { index });
+    }
+    if filter_is_unsupported(query) {
+        return Err(QueryError::UnsupportedFilter);
+    }
+    if !is_good_plan(&query.plan) {
+        return Err(QueryError::BadPlan);
+    }
+    if is_not_built(query) {
+        return Err(QueryError::NotBuilt);
+    }
+    if is_too_large(build) || is_too_large(probe) {
+        return Err(QueryError::TooLarge);
+    }
+    Ok(())
+}
