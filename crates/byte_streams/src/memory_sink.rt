@@ -27,8 +27,13 @@ impl Model for MemorySink {
     ghost Value = { Store };
 
     ghost view = { λ s. record {
-        held = s.bytes.items; room = s.room; piece = s.piece;
-        fail_at = s.fail_at; calls = s.calls; faults = s.faults } };
+      held = s.bytes.items;
+      room = s.room;
+      piece = s.piece;
+      fail_at = s.fail_at;
+      calls = s.calls;
+      faults = s.faults;
+    } };
 
     ghost invariant = { λ s.
         (vec_len s.bytes ≤ s.room) × (s.room ≤ vec_capacity s.bytes) × (1 ≤ s.piece) };
@@ -46,7 +51,13 @@ impl MemorySink {
     ) -> Result<Self, AllocError>
         requires { 1 ≤ piece }
         ensures { IfOk result (λ s. s ≡ record {
-            held = []; room = room; piece = piece; fail_at = fail_at; calls = 0; faults = 0 }) }
+          held = [];
+          room = room;
+          piece = piece;
+          fail_at = fail_at;
+          calls = 0;
+          faults = 0;
+        }) }
     {
         Ok(MemorySink {
             bytes: Vec::with_capacity(alloc, room)?,

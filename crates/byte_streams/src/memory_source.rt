@@ -26,8 +26,12 @@ impl Model for MemorySource {
     ghost Value = { Supply };
 
     ghost view = { λ s. record {
-        left = drop s.taken s.bytes.items; piece = s.piece;
-        fail_at = s.fail_at; calls = s.calls; faults = s.faults } };
+      left = drop s.taken s.bytes.items;
+      piece = s.piece;
+      fail_at = s.fail_at;
+      calls = s.calls;
+      faults = s.faults;
+    } };
 
     ghost invariant = { λ s. (s.taken ≤ length s.bytes.items) × (1 ≤ s.piece) };
 }
@@ -38,7 +42,12 @@ impl MemorySource {
     pub fn new(bytes: Vec<u8>, piece: usize, fail_at: List<u64>) -> Self
         requires { 1 ≤ piece }
         ensures { result ≡ record {
-            left = bytes.items; piece = piece; fail_at = fail_at; calls = 0; faults = 0 } }
+          left = bytes.items;
+          piece = piece;
+          fail_at = fail_at;
+          calls = 0;
+          faults = 0;
+        } }
     {
         MemorySource {
             bytes,

@@ -1,24 +1,19 @@
 -- What follows where a source tells its bytes, and what a write of a line leaves.
-use Rattle.std.proofs.Common.{◌≡◌, ◌≢◌, ◌<◌, ◌≤◌, ◌⊎◌, ◌^◌, ◌==◌, ℕ, Bool, true, false, ◌++◌, List, length, Option, Some, None, Result, Ok, Err, is_err, OnOk, OnErr, IfSome, IsOkAnd, inl, inr, refl, ap, sym, subst, ◌∙◌, arith, length-append}
+use Rattle.std.proofs.Common.{◌≡◌, ◌<◌, ◌≤◌, ◌⊎◌, ◌==◌, ℕ, true, ◌++◌, List, length, Option, Some, None, Result, Ok, Err, is_err, OnOk, OnErr, IfSome, IsOkAnd, inl, inr, refl, ap, sym, subst, ◌∙◌, arith, length-append}
 use Rattle.std.proofs.lemmas.List.{append-nil}
 use Rattle.std.proofs.Math.Seq.{take-length}
 use Rattle.std.specs.Io.KnownBytes.{prepend_known, append_known}
 use Rattle.byte_streams.specs.Faults.{Rose, faults_after}
-use Rattle.byte_streams.specs.Whole.{GrowsByFront, StopsReading, is_read_fault}
-use Rattle.byte_streams.specs.declared.whole.ReadError.{ReadError}
-use Rattle.byte_streams.specs.declared.whole.ReadError.TheVariants as reads
+use Rattle.byte_streams.specs.Whole.{GrowsByFront}
 use Rattle.byte_streams.specs.declared.whole.WriteFault.{WriteFault as Fault}
 use Rattle.join_request.specs.declared.error.RequestError.{RequestError}
-use Rattle.join_request.specs.declared.error.RequestError.TheVariants as requests
 use Rattle.join_request.specs.declared.reader.Request.{Request as Command}
 use Rattle.join_request.specs.Request.{request_of}
 use Rattle.join_model.specs.Refusals.{refusal_of}
-use Rattle.join_query.specs.declared.error.QueryError.{QueryError}
-use Rattle.join_query.specs.declared.error.QueryError.TheVariants as queries
 use Rattle.join_command.specs.declared.error.ToolError.{ToolError}
 use Rattle.join_command.specs.declared.error.ToolError.TheVariants.{Usage, ReadFault, TooLong, Request, Query, WriteFault, TextFault, Memory}
-use Rattle.join_command.specs.Errors.{status_of, error_of_read, error_of_request, error_of_query}
-use Rattle.join_command.specs.Replies.{text_of, text_unless, reply_of, reply_to, HasNoRefusal, IsCause}
+use Rattle.join_command.specs.Errors.{status_of}
+use Rattle.join_command.specs.Replies.{text_of, text_unless, reply_of, reply_to, HasNoRefusal}
 use Rattle.join_command.specs.Runs.{WasRead, IsAnswered, IsRefused, IsReplied, IsGiven, TakesFront, WritesLine}
 
 -- a write of a line, whole or not
@@ -114,34 +109,8 @@ complete status words None faults_before faults_now WriteFails fault reply = tt
 complete status words (Some bytes) faults_before faults_now WriteFails fault reply =
     λ given valid writes. valid_answered bytes status valid (λ seven. writes (fault seven)) (reply given)
 
--- a count that has risen by a fault rose
-pub rose : (before now : ℕ) (failed : Bool) → now ≡ faults_after failed before → failed ≡ true → Rose before now
-rose before now true counted is = omega (arith, counted)
-rose before now false counted is = absurd (cc)
-
--- a read that stopped has status 3 exactly where the source failed, 4 exactly where it was too long, and else 8
-pub status_of_read : (e : ReadError) (A : Type 0) → (status_of (error_of_read e) == 3) ≡ is_read_fault {A} (Err e)
-status_of_read reads.Fault A = refl
-status_of_read reads.TooLong A = refl
-status_of_read reads.Memory A = refl
-
--- the first of what was left, by the status of a read that stopped
-pub stopped_takes : (e : ReadError) (before now : Option (List ℕ)) → StopsReading e (2 ^ 28) before now → TakesFront before now (status_of (error_of_read e))
-stopped_takes reads.Fault before now s = record { taken = s.taken; front = s.front; too_long = (λ four. absurd (omega (arith, four)), λ long. omega (arith, s.count)); within = omega (arith, s.count) }
-stopped_takes reads.TooLong before now s = record { taken = s.taken; front = s.front; too_long = (λ four. s.count.0, λ long. refl); within = s.count.1 }
-stopped_takes reads.Memory before now s = record { taken = s.taken; front = s.front; too_long = (λ four. absurd (omega (arith, four)), λ long. omega (arith, s.count)); within = omega (arith, s.count) }
-
--- what was taken of a request that was read whole, under a status that is not 4
-pub read_takes : (status : ℕ) (before now : Option (List ℕ)) (bytes : List ℕ) → before ≡ prepend_known bytes now → length bytes ≤ 2 ^ 28 → status ≢ 4 → TakesFront before now status
-read_takes status before now bytes front short other = record { taken = bytes; front = front; too_long = (λ four. absurd (other four), λ long. absurd (omega arith)); within = omega (arith, short) }
-
--- the cause why a request was not read, or why its query was not answered, is the reply, or want of memory
-pub request_cause : (e : RequestError) (read : Result Command RequestError) → (e ≡ requests.Memory) ⊎ (read ≡ Err e) → IsCause (reply_of read) (error_of_request e)
-request_cause requests.Memory read why = inl refl
-request_cause e read (inl is) = absurd (cc)
-request_cause e read (inr is) = inr (omega arith, omega arith, ap reply_of is)
-
-pub query_cause : (e : QueryError) (r : Command) → (e ≡ queries.Memory) ⊎ (refusal_of r.query r.build r.probe ≡ Some e) → IsCause (reply_of (Ok r)) (error_of_query e)
-query_cause queries.Memory r why = inl refl
-query_cause e r (inl is) = absurd (cc)
-query_cause e r (inr is) = inr (omega arith, omega arith, ap (text_unless (text_of r)) is)
+-- with status 7 the sink's count of faults rose
+pub rose_at : (before now status : ℕ) → now ≡ faults_after (status == 7) before → status ≡ 7 → Rose before now
+rose_at before now status counted seven =
+    let one : now ≡ faults_after true before = subst (λ (k : ℕ). now ≡ faults_after (k == 7) before) seven counted in
+    omega (arith, one)

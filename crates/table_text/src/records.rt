@@ -9,11 +9,7 @@ use csv::ByteRecord;
 use std::alloc::{AllocError, Global};
 
 /// Makes it the header record: the mark, and the names of the columns.
-pub fn fill_header(
-    fields: &mut ByteRecord,
-    mark: &str,
-    schema: &Schema,
-) -> Result<(), AllocError>
+pub fn fill_header(fields: &mut ByteRecord, mark: &str, schema: &Schema) -> Result<(), AllocError>
     ensures { OnOk result (fields_of fields.new ≡ header_record mark.now schema.now) }
 {
     fields.clear();

@@ -1,5 +1,7 @@
-use Rattle.std.proofs.Common.{length, sym, ◌∙◌, refl}
-use Rattle.join_command.proofs.Told.{Says, replied, complete, rose}
+use Rattle.std.proofs.Common.{length, sym, ◌∙◌}
+use Rattle.byte_streams.specs.Faults.{Rose}
+use Rattle.join_command.specs.Errors.{status_of}
+use Rattle.join_command.proofs.Told.{Says, replied, complete, rose_at}
 use Rattle.join_command.proofs.run.run_tool.Goals as goal
 
 pub returns-in-Err-clause-replied : goal.returns-in-Err-clause-replied
@@ -22,6 +24,8 @@ returns-in-Err-clause-replied g c =
 pub returns-in-Err-clause-complete : goal.returns-in-Err-clause-complete
 returns-in-Err-clause-complete g c =
     let faults = g.S.Source.faults in
-    complete c.report.result (length c.args.words.now) (g.S.Source.left c.args.source.now) (faults c.args.source.now) (faults c.run_command.new.source) _
-    (λ seven. rose _ _ _ c.in-Err.ensures.write_faults (rw (sym c.report.ensures.status ∙ seven) refl))
+    let before = g.O.Sink.faults c.args.out.now in
+    let now = g.O.Sink.faults c.run_command.new.out in
+    complete c.report.result (length c.args.words.now) (g.S.Source.left c.args.source.now) (faults c.args.source.now) (faults c.run_command.new.source) (Rose before now)
+    (λ seven. rose_at before now (status_of c.in-Err.e) c.in-Err.ensures.write_faults (sym c.report.ensures.status ∙ seven))
     (returns-in-Err-clause-replied g c)
