@@ -9,6 +9,6 @@ one_more n = min (n + 1) (2 ^ 64 - 1)
 abbrev pub faults_after : Bool → ℕ → ℕ
 faults_after failed faults = if failed then one_more faults else faults
 
--- a count of faults rose, or stands at its last value
+-- A count of faults rose, or stands at its last value.
 abbrev pub Rose : ℕ → ℕ → Type 0
 Rose before now = one_more before ≤ now

@@ -1,9 +1,8 @@
--- What a read does to the bytes that a source has left and to its count of faults.
-use Rattle.std.specs.Prelude.{ℕ, ◌≡◌, ◌≤◌, List, length, take, Option, Bool, true, false, ⊤}
+-- What a read does to the bytes that a source has left.
+use Rattle.std.specs.Prelude.{ℕ, ◌≡◌, ◌≤◌, List, length, take, Option, Bool, true, false}
 use Rattle.std.specs.Io.KnownBytes.{prepend_known, IsAtEnd}
 use Rattle.byte_streams.specs.declared.source.Took.{Took}
 use Rattle.byte_streams.specs.declared.source.Took.TheVariants.{Got, End, Failed}
-use Rattle.byte_streams.specs.Faults.{Rose}
 
 -- What a read did, by its answer. The bytes that it gave are the first of those left, the rest is left; it told of the end
 -- only where nothing was left; and it failed without loss. A source that tells what is left goes on to, and no other begins to.
@@ -11,12 +10,6 @@ abbrev pub ReadOf : Took → Option (List ℕ) → Option (List ℕ) → List �
 ReadOf (Got n) before now buffer = (1 ≤ n) × (n ≤ length buffer) × (before ≡ prepend_known (take n buffer) now)
 ReadOf End before now buffer = (now ≡ before) × IsAtEnd before
 ReadOf Failed before now buffer = now ≡ before
-
--- a read failed only where the count of faults rose
-abbrev pub ReadCause : Took → ℕ → ℕ → Type 0
-ReadCause (Got n) before now = ⊤
-ReadCause End before now = ⊤
-ReadCause Failed before now = Rose before now
 
 abbrev pub is_failed_read : Took → Bool
 is_failed_read (Got n) = false

@@ -1,9 +1,11 @@
 //! A sink in memory, for programs that keep their output and for tests of whoever writes.
 ghost use Rattle.std.specs.Prelude.{◌≡◌, ◌<◌, ◌≤◌, [], length, Some, IfOk};
-ghost use Rattle.byte_streams.specs.Sinks.{WriteOf, WriteCause};
+ghost use Rattle.byte_streams.specs.Faults.{faults_after};
+ghost use Rattle.byte_streams.specs.Sinks.{WriteOf, is_failed_write};
 ghost use Rattle.byte_streams.specs.Memory.{next_write, after_write};
 
 use crate::{Put, Sink};
+use item_list::List;
 use std::alloc::{AllocError, Global};
 use std::marker::Model;
 
@@ -13,7 +15,7 @@ pub struct MemorySink {
     bytes: Vec<u8>,
     room: usize,
     piece: usize,
-    fail_at: Vec<u64>,
+    fail_at: List<u64>,
     calls: u64,
     faults: u64,
 }
@@ -24,9 +26,17 @@ impl Model for MemorySink {
 
     ghost Value = { Store };
 
-    ghost view = { λ s. record { held = s.bytes.items; room = s.room; piece = s.piece; fail_at = s.fail_at.items; calls = s.calls; faults = s.faults } };
+    ghost view = { λ s. record {
+      held = s.bytes.items;
+      room = s.room;
+      piece = s.piece;
+      fail_at = s.fail_at;
+      calls = s.calls;
+      faults = s.faults;
+    } };
 
-    ghost invariant = { λ s. (vec_len s.bytes ≤ s.room) × (s.room ≤ vec_capacity s.bytes) × (1 ≤ s.piece) };
+    ghost invariant = { λ s.
+        (vec_len s.bytes ≤ s.room) × (s.room ≤ vec_capacity s.bytes) × (1 ≤ s.piece) };
 }
 
 impl MemorySink {
@@ -37,10 +47,17 @@ impl MemorySink {
         alloc: Global,
         room: usize,
         piece: usize,
-        fail_at: Vec<u64>,
+        fail_at: List<u64>,
     ) -> Result<Self, AllocError>
         requires { 1 ≤ piece }
-        ensures { IfOk result (λ s. s ≡ record { held = []; room = room; piece = piece; fail_at = fail_at.items; calls = 0; faults = 0 }) }
+        ensures { IfOk result (λ s. s ≡ record {
+          held = [];
+          room = room;
+          piece = piece;
+          fail_at = fail_at;
+          calls = 0;
+          faults = 0;
+        }) }
     {
         Ok(MemorySink {
             bytes: Vec::with_capacity(alloc, room)?,
@@ -83,11 +100,11 @@ impl Sink for MemorySink {
         requires { 0 < length bytes.now }
         ensures took { WriteOf result (Some self.old.held) (Some self.new.held) bytes.now }
         ensures never_falls { self.old.faults ≤ self.new.faults }
-        ensures cause { WriteCause result self.old.faults self.new.faults }
+        ensures counted { self.new.faults ≡ faults_after (is_failed_write result) self.old.faults }
         ensures outcome { result ≡ next_write self.old (length bytes.now) }
         ensures after { self.new ≡ after_write self.old bytes.now result }
     {
-        let fails = self.fail_at.contains(&self.calls) || self.bytes.len() == self.room;
+        let fails = self.fail_at.as_slice().contains(&self.calls) || self.bytes.len() == self.room;
         self.calls = self.calls.saturating_add(1);
         if fails {
             self.faults = self.faults.saturating_add(1);

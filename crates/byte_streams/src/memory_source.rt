@@ -1,9 +1,11 @@
 //! A source in memory, for programs whose input is at hand and for tests of whoever reads.
 ghost use Rattle.std.specs.Prelude.{◌≡◌, ◌<◌, ◌≤◌, ◌++◌, min, length, take, drop, Some};
-ghost use Rattle.byte_streams.specs.Sources.{ReadOf, ReadCause};
+ghost use Rattle.byte_streams.specs.Faults.{faults_after};
+ghost use Rattle.byte_streams.specs.Sources.{ReadOf, is_failed_read};
 ghost use Rattle.byte_streams.specs.Memory.{next_read, after_read};
 
 use crate::{Source, Took};
+use item_list::List;
 use std::marker::Model;
 
 /// Bytes in memory, given in pieces, with calls that fail on purpose.
@@ -12,7 +14,7 @@ pub struct MemorySource {
     bytes: Vec<u8>,
     taken: usize,
     piece: usize,
-    fail_at: Vec<u64>,
+    fail_at: List<u64>,
     calls: u64,
     faults: u64,
 }
@@ -23,7 +25,13 @@ impl Model for MemorySource {
 
     ghost Value = { Supply };
 
-    ghost view = { λ s. record { left = drop s.taken s.bytes.items; piece = s.piece; fail_at = s.fail_at.items; calls = s.calls; faults = s.faults } };
+    ghost view = { λ s. record {
+      left = drop s.taken s.bytes.items;
+      piece = s.piece;
+      fail_at = s.fail_at;
+      calls = s.calls;
+      faults = s.faults;
+    } };
 
     ghost invariant = { λ s. (s.taken ≤ length s.bytes.items) × (1 ≤ s.piece) };
 }
@@ -31,9 +39,15 @@ impl Model for MemorySource {
 impl MemorySource {
     /// A source that gives these bytes, at most `piece` of them a call, and fails at the calls whose numbers, from 0, are
     /// in `fail_at`. The number of a call and the count of faults stand still at the greatest `u64`.
-    pub fn new(bytes: Vec<u8>, piece: usize, fail_at: Vec<u64>) -> Self
+    pub fn new(bytes: Vec<u8>, piece: usize, fail_at: List<u64>) -> Self
         requires { 1 ≤ piece }
-        ensures { result ≡ record { left = bytes.items; piece = piece; fail_at = fail_at.items; calls = 0; faults = 0 } }
+        ensures { result ≡ record {
+          left = bytes.items;
+          piece = piece;
+          fail_at = fail_at;
+          calls = 0;
+          faults = 0;
+        } }
     {
         MemorySource {
             bytes,
@@ -86,11 +100,11 @@ impl Source for MemorySource {
         requires { 0 < length buf.old }
         ensures took { ReadOf result (Some self.old.left) (Some self.new.left) buf.new }
         ensures never_falls { self.old.faults ≤ self.new.faults }
-        ensures cause { ReadCause result self.old.faults self.new.faults }
+        ensures counted { self.new.faults ≡ faults_after (is_failed_read result) self.old.faults }
         ensures outcome { result ≡ next_read self.old (length buf.old) }
         ensures after { self.new ≡ after_read self.old result }
     {
-        let listed = self.fail_at.contains(&self.calls);
+        let listed = self.fail_at.as_slice().contains(&self.calls);
         self.calls = self.calls.saturating_add(1);
         if listed {
             self.faults = self.faults.saturating_add(1);

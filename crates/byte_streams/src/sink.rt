@@ -1,13 +1,15 @@
 //! Where bytes go.
-ghost use Rattle.std.specs.Prelude.{◌<◌, ◌≤◌, ℕ, List, Option, length};
-ghost use Rattle.byte_streams.specs.Sinks.{WriteOf, WriteCause};
+ghost use Rattle.std.specs.Prelude.{◌≡◌, ◌<◌, ◌≤◌, ℕ, List, Option, length};
+ghost use Rattle.byte_streams.specs.Faults.{faults_after};
+ghost use Rattle.byte_streams.specs.Sinks.{WriteOf, is_failed_write};
 
 /// What became of a write.
 #[derive(Clone, Copy, PartialEq, Eq, Debug)]
 pub enum Put {
     /// So many of the first bytes, at least one, were taken.
     Took(usize),
-    /// None was taken, since the sink failed. What it holds is as before.
+    /// The sink failed. If it tells its bytes, they are as before. One that does not tell them may have passed some of these
+    /// on, as a writer does whose flush fails after it took them.
     Failed,
 }
 
@@ -16,7 +18,7 @@ pub trait Sink {
     /// The bytes that the sink holds, or none where it does not tell.
     ghost held: { Self → Option (List ℕ) };
 
-    /// How often the sink has failed.
+    /// How many calls failed. A count that is kept in 64 bits stands still at the greatest of them.
     ghost faults: { Self → ℕ };
 
     /// Takes at least the first byte, unless the sink fails.
@@ -24,5 +26,6 @@ pub trait Sink {
         requires { 0 < length bytes.now }
         ensures took { WriteOf result (held self.old) (held self.new) bytes.now }
         ensures never_falls { faults self.old ≤ faults self.new }
-        ensures cause { WriteCause result (faults self.old) (faults self.new) };
+        ensures counted { faults self.new ≡
+            faults_after (is_failed_write result) (faults self.old) };
 }

@@ -1,6 +1,7 @@
 //! Where bytes come from.
-ghost use Rattle.std.specs.Prelude.{◌<◌, ◌≤◌, ℕ, List, Option, length};
-ghost use Rattle.byte_streams.specs.Sources.{ReadOf, ReadCause};
+ghost use Rattle.std.specs.Prelude.{◌≡◌, ◌<◌, ◌≤◌, ℕ, List, Option, length};
+ghost use Rattle.byte_streams.specs.Faults.{faults_after};
+ghost use Rattle.byte_streams.specs.Sources.{ReadOf, is_failed_read};
 
 /// What a read gave.
 #[derive(Clone, Copy, PartialEq, Eq, Debug)]
@@ -18,7 +19,7 @@ pub trait Source {
     /// The bytes that reads will give from here on, or none where the source does not tell.
     ghost left: { Self → Option (List ℕ) };
 
-    /// How often the source has failed.
+    /// How many calls failed. A count that is kept in 64 bits stands still at the greatest of them.
     ghost faults: { Self → ℕ };
 
     /// Reads at least one byte into the front of the buffer, unless the source is at its end or fails. What stands behind
@@ -27,5 +28,6 @@ pub trait Source {
         requires { 0 < length buf.old }
         ensures took { ReadOf result (left self.old) (left self.new) buf.new }
         ensures never_falls { faults self.old ≤ faults self.new }
-        ensures cause { ReadCause result (faults self.old) (faults self.new) };
+        ensures counted { faults self.new ≡
+            faults_after (is_failed_read result) (faults self.old) };
 }

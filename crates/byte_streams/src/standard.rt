@@ -1,7 +1,8 @@
 //! The standard streams, or any other of std's readers and writers, as sources and sinks. They tell no bytes.
 ghost use Rattle.std.specs.Prelude.{◌≡◌, ◌<◌, ◌≤◌, length, None};
-ghost use Rattle.byte_streams.specs.Sources.{ReadOf, ReadCause};
-ghost use Rattle.byte_streams.specs.Sinks.{WriteOf, WriteCause};
+ghost use Rattle.byte_streams.specs.Faults.{faults_after};
+ghost use Rattle.byte_streams.specs.Sources.{ReadOf, is_failed_read};
+ghost use Rattle.byte_streams.specs.Sinks.{WriteOf, is_failed_write};
 ghost use Rattle.byte_streams.specs.Standard.{ReaderRead, WriterWrote};
 
 use crate::{Put, Sink, Source, Took};
@@ -48,8 +49,9 @@ impl<R: Read> Source for StdSource<R> {
         requires { 0 < length buf.old }
         ensures took { ReadOf result None None buf.new }
         ensures never_falls { self.old.faults ≤ self.new.faults }
-        ensures cause { ReadCause result self.old.faults self.new.faults }
-        ensures reader { ReaderRead result (R.remaining self.old.stream) (R.remaining self.new.stream) buf.new }
+        ensures counted { self.new.faults ≡ faults_after (is_failed_read result) self.old.faults }
+        ensures reader { ReaderRead result
+            (R.remaining self.old.stream) (R.remaining self.new.stream) buf.new }
     {
         match self.reader.read(buf) {
             Ok(0) => Took::End,
@@ -102,8 +104,9 @@ impl<W: Write> Sink for StdSink<W> {
         requires { 0 < length bytes.now }
         ensures took { WriteOf result None None bytes.now }
         ensures never_falls { self.old.faults ≤ self.new.faults }
-        ensures cause { WriteCause result self.old.faults self.new.faults }
-        ensures writer { WriterWrote result (W.contents self.old.stream) (W.contents self.new.stream) bytes.now }
+        ensures counted { self.new.faults ≡ faults_after (is_failed_write result) self.old.faults }
+        ensures writer { WriterWrote result
+            (W.contents self.old.stream) (W.contents self.new.stream) bytes.now }
     {
         let count = self.writer.write(bytes).unwrap_or(0);
         if count > 0 && self.writer.flush().is_ok() {

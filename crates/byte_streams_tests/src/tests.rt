@@ -2,11 +2,18 @@ use byte_streams::{
     MemorySink, MemorySource, Put, ReadError, Sink, Source, StdSink, StdSource, Took, WriteFault,
     read_to_end, write_all,
 };
+use item_list::List;
+use std::alloc::{AllocError, Global};
 use std::io;
-use std::io::{ErrorKind, Read};
+use std::io::{BufWriter, ErrorKind, Read, Write};
 use std::test::Fail;
 
 const LETTERS: &[u8] = b"abcde";
+
+/// The numbers of the calls that fail.
+fn calls(alloc: Global, numbers: &[u64]) -> Result<List<u64>, AllocError> {
+    Ok(List::from_vec(numbers.to_vec(alloc)?))
+}
 
 #[test]
 fn a_source_gives_pieces_and_fails_when_told(rt: HostRuntime) -> Result<(), Fail> {
@@ -26,7 +33,7 @@ fn a_source_gives_pieces_and_fails_when_told(rt: HostRuntime) -> Result<(), Fail
     for (piece, fail_at, answers) in cases {
         assert!(rt; piece >= 1);
         let bytes = LETTERS.to_vec(rt.alloc())?;
-        let mut source = MemorySource::new(bytes, piece, fail_at.to_vec(rt.alloc())?);
+        let mut source = MemorySource::new(bytes, piece, calls(rt.alloc(), fail_at)?);
         assert_eq!(rt; source.left(), LETTERS);
         let mut buf = [0; 4];
         for answer in answers {
@@ -52,7 +59,7 @@ fn a_sink_takes_pieces_and_fails_when_full_or_told(rt: HostRuntime) -> Result<()
     ];
     for (room, piece, fail_at, answers, held) in cases {
         assert!(rt; piece >= 1);
-        let fail_at = fail_at.to_vec(rt.alloc())?;
+        let fail_at = calls(rt.alloc(), fail_at)?;
         let mut sink = MemorySink::new(rt.alloc(), room, piece, fail_at)?;
         let mut faults = 0u64;
         for answer in answers {
@@ -105,30 +112,59 @@ fn readers_and_writers_are_sources_and_sinks(rt: HostRuntime) -> Result<(), Fail
     Ok(())
 }
 
+/// A writer that takes all bytes, and whose flush fails.
+#[derive(Drop)]
+struct Stuck;
+
+impl Write for Stuck {
+    fn write(&mut self, buf: &[u8]) -> io::Result<usize> {
+        Ok(buf.len())
+    }
+
+    fn flush(&mut self) -> io::Result<()> {
+        Err(io::Error::from(ErrorKind::Other))
+    }
+}
+
+#[test]
+fn a_sink_flushes_in_each_call(rt: HostRuntime) -> Result<(), Fail> {
+    let mut buffered = BufWriter::new(rt.alloc(), Vec::new(rt.alloc()))?;
+    for calls in 1..3usize {
+        let mut sink = StdSink::new(&mut buffered);
+        assert_eq!(rt; sink.write(LETTERS), Put::Took(5));
+        assert!(rt; buffered.buffer().is_empty());
+        assert_eq!(rt; buffered.get_ref().len(), 5 * calls);
+    }
+    let mut stuck = StdSink::new(Stuck);
+    assert_eq!(rt; stuck.write(LETTERS), Put::Failed);
+    assert_eq!(rt; stuck.faults(), 1);
+    Ok(())
+}
+
 #[test]
 fn whole_reads_and_writes(rt: HostRuntime) -> Result<(), Fail> {
     for (piece, most) in [(1, 5), (2, 6), (9, 5)] {
         assert!(rt; piece >= 1);
         let bytes = LETTERS.to_vec(rt.alloc())?;
-        let mut source = MemorySource::new(bytes, piece, Vec::new(rt.alloc()));
+        let mut source = MemorySource::new(bytes, piece, List::new(rt.alloc()));
         let read = read_to_end(rt.alloc(), &mut source, most)
             .ok()
             .ok_or("read")?;
         assert_eq!(rt; read.as_slice(), LETTERS, "piece {piece}");
         let bytes = LETTERS.to_vec(rt.alloc())?;
-        let mut source = MemorySource::new(bytes, piece, Vec::new(rt.alloc()));
+        let mut source = MemorySource::new(bytes, piece, List::new(rt.alloc()));
         let read = read_to_end(rt.alloc(), &mut source, 4);
         assert_eq!(rt; read.err(), Some(ReadError::TooLong), "piece {piece}");
     }
     for call in 0..6u64 {
         let bytes = LETTERS.to_vec(rt.alloc())?;
-        let mut source = MemorySource::new(bytes, 1, [call].to_vec(rt.alloc())?);
+        let mut source = MemorySource::new(bytes, 1, calls(rt.alloc(), &[call])?);
         let read = read_to_end(rt.alloc(), &mut source, 9);
         assert_eq!(rt; read.err(), Some(ReadError::Fault), "call {call}");
         assert_eq!(rt; source.left().len() as u64, 5 - call.min(5));
     }
     for call in 0..6u64 {
-        let mut sink = MemorySink::new(rt.alloc(), 5, 1, [call].to_vec(rt.alloc())?)?;
+        let mut sink = MemorySink::new(rt.alloc(), 5, 1, calls(rt.alloc(), &[call])?)?;
         let wanted = if call < 5 { Err(WriteFault) } else { Ok(()) };
         assert_eq!(rt; write_all(&mut sink, LETTERS), wanted, "call {call}");
         assert_eq!(rt; sink.bytes().len() as u64, call);

@@ -1,22 +1,20 @@
 -- What follows where a source tells its bytes, and what a write of a line leaves.
-use Rattle.std.proofs.Common.{◌≡◌, ◌<◌, ◌≤◌, ◌⊎◌, ◌^◌, ℕ, ◌++◌, List, length, Option, Some, None, Result, Ok, Err, OnOk, OnErr, IfSome, IsOkAnd, inl, inr, refl, ap, sym, subst, ◌∙◌, arith, length-append}
+use Rattle.std.proofs.Common.{◌≡◌, ◌<◌, ◌≤◌, ◌⊎◌, ◌==◌, ℕ, true, ◌++◌, List, length, Option, Some, None, Result, Ok, Err, is_err, OnOk, OnErr, IfSome, IsOkAnd, inl, inr, refl, ap, sym, subst, ◌∙◌, arith, length-append}
 use Rattle.std.proofs.lemmas.List.{append-nil}
 use Rattle.std.proofs.Math.Seq.{take-length}
 use Rattle.std.specs.Io.KnownBytes.{prepend_known, append_known}
-use Rattle.byte_streams.specs.Faults.{Rose}
+use Rattle.byte_streams.specs.Faults.{Rose, faults_after}
 use Rattle.byte_streams.specs.Whole.{GrowsByFront}
 use Rattle.byte_streams.specs.declared.whole.WriteFault.{WriteFault as Fault}
 use Rattle.join_request.specs.declared.error.RequestError.{RequestError}
-use Rattle.join_request.specs.declared.error.RequestError.TheVariants as requests
 use Rattle.join_request.specs.declared.reader.Request.{Request as Command}
 use Rattle.join_request.specs.Request.{request_of}
 use Rattle.join_model.specs.Refusals.{refusal_of}
-use Rattle.join_query.specs.declared.error.QueryError.TheVariants as queries
 use Rattle.join_command.specs.declared.error.ToolError.{ToolError}
-use Rattle.join_command.specs.declared.error.ToolError.TheVariants.{Usage, ReadFault, TooLong, Request, Query, WriteFault, Memory}
+use Rattle.join_command.specs.declared.error.ToolError.TheVariants.{Usage, ReadFault, TooLong, Request, Query, WriteFault, TextFault, Memory}
 use Rattle.join_command.specs.Errors.{status_of}
 use Rattle.join_command.specs.Replies.{text_of, text_unless, reply_of, reply_to, HasNoRefusal}
-use Rattle.join_command.specs.Runs.{WasRead, IsAnswered, IsRefused, IsReplied, WritesLine}
+use Rattle.join_command.specs.Runs.{WasRead, IsAnswered, IsRefused, IsReplied, IsGiven, TakesFront, WritesLine}
 
 -- a write of a line, whole or not
 pub writes_line : (before now : Option (List ℕ)) (faults_before faults_now : ℕ) (line : List ℕ) (r : Result (Unit {0}) Fault)
@@ -25,6 +23,11 @@ pub writes_line : (before now : Option (List ℕ)) (faults_before faults_now : �
 writes_line before now faults_before faults_now line (Ok u) whole front cause =
     record { front = (length line, whole ∙ ap (append_known before) (sym (take-length line))); whole = inr whole }
 writes_line before now faults_before faults_now line (Err e) whole front cause = record { front = front; whole = inl cause }
+
+-- a write that is not whole has had its fault counted
+pub faults_counted : (before now : ℕ) (r : Result (Unit {0}) Fault) → now ≡ faults_after (is_err r) before → OnErr r (Rose before now)
+faults_counted before now (Ok u) counted = tt
+faults_counted before now (Err e) counted = omega (arith, counted)
 
 some_injective : {x y : List ℕ} → Some x ≡ Some y → x ≡ y
 some_injective e = cc
@@ -54,37 +57,35 @@ refused_status bytes e now r = subst (λ (reply : Result (List ℕ) ToolError). 
 -- what a run that ends with an error says of it
 pub record Says (e : ToolError) (words : ℕ) (before now : Option (List ℕ)) (faults_before faults_now : ℕ) : Type 0 where
   pub usage : status_of e ≡ 2 → 0 < words
-  pub read_fault : status_of e ≡ 3 → Rose faults_before faults_now
-  pub too_long : (taken : List ℕ) × (before ≡ prepend_known taken now) × (status_of e ≡ 4 → 2 ^ 28 < length taken)
+  pub faults : faults_now ≡ faults_after (status_of e == 3) faults_before
+  pub taken : TakesFront before now (status_of e)
   pub refused : 5 ≤ status_of e → status_of e ≤ 6 → IsRefused before now e
   pub front : status_of e ≡ 7 → (text : List ℕ) × IsAnswered before now text
 
 -- where words, faults and length do not explain an error, the reply does, or want of memory
 explained : (e : ToolError) (words : ℕ) (bytes : List ℕ) (now : Option (List ℕ)) (faults_before faults_now : ℕ)
-    → Says e words (Some bytes) now faults_before faults_now → words ≡ 0 → length bytes ≤ 2 ^ 28 → ¬ Rose faults_before faults_now
+    → Says e words (Some bytes) now faults_before faults_now → IsGiven words bytes faults_before faults_now
     → (status_of e ≡ 8) ⊎ IsReplied (reply_to bytes) (status_of e)
-explained Usage words bytes now f f' says none short sound = let some = says.usage refl in absurd (omega arith)
-explained ReadFault words bytes now f f' says none short sound = absurd (sound (says.read_fault refl))
-explained TooLong words bytes now f f' says none short sound =
-    let taken = says.too_long in
-    let long = taken.2 refl in
-    let within = taken_within bytes taken.0 now taken.1 in
-    absurd (omega arith)
-explained (Request requests.Memory) words bytes now f f' says none short sound = inl refl
-explained (Request r) words bytes now f f' says none short sound = inr (refused_status bytes (Request r) now (says.refused (omega arith) (omega arith)))
-explained (Query queries.Memory) words bytes now f f' says none short sound = inl refl
-explained (Query q) words bytes now f f' says none short sound = inr (refused_status bytes (Query q) now (says.refused (omega arith) (omega arith)))
-explained WriteFault words bytes now f f' says none short sound =
+explained Usage words bytes now f f' says given = let some = says.usage refl in absurd (omega (arith, given.no_words))
+explained ReadFault words bytes now f f' says given = absurd (given.sound (omega (arith, says.faults)))
+explained TooLong words bytes now f f' says given =
+    let long = says.taken.too_long.0 refl in
+    let within = taken_within bytes says.taken.taken now says.taken.front in
+    absurd (omega (arith, given.short))
+explained (Request r) words bytes now f f' says given = inr (refused_status bytes (Request r) now (says.refused (omega arith) (omega arith)))
+explained (Query q) words bytes now f f' says given = inr (refused_status bytes (Query q) now (says.refused (omega arith) (omega arith)))
+explained WriteFault words bytes now f f' says given =
     let a = says.front refl in
     inr (subst (λ (r : Result (List ℕ) ToolError). IsReplied r 7) (sym (answered_replied bytes a.0 now a.1)) (inr refl))
-explained Memory words bytes now f f' says none short sound = inl refl
+explained TextFault words bytes now f f' says given = inl refl
+explained Memory words bytes now f f' says given = inl refl
 
 -- a request without a fault has its reply, unless memory runs out
 pub replied : (e : ToolError) (words : ℕ) (before now : Option (List ℕ)) (faults_before faults_now : ℕ)
     → Says e words before now faults_before faults_now
-    → IfSome before (λ bytes. words ≡ 0 → length bytes ≤ 2 ^ 28 → ¬ Rose faults_before faults_now → (status_of e ≡ 8) ⊎ IsReplied (reply_to bytes) (status_of e))
+    → IfSome before (λ bytes. IsGiven words bytes faults_before faults_now → (status_of e ≡ 8) ⊎ IsReplied (reply_to bytes) (status_of e))
 replied e words None now faults_before faults_now says = tt
-replied e words (Some bytes) now faults_before faults_now says = λ none short sound. explained e words bytes now faults_before faults_now says none short sound
+replied e words (Some bytes) now faults_before faults_now says = explained e words bytes now faults_before faults_now says
 
 -- the reply to a request whose query has no refusal is a text
 text_replied : (read : Result Command RequestError) → IsOkAnd read (λ r. refusal_of r.query r.build r.probe ≡ None) → (text : List ℕ) × (reply_of read ≡ Ok text)
@@ -101,8 +102,15 @@ valid_answered bytes status valid sound (inr replied) =
       | inr seven ↦ absurd (sound seven)
     ]
 
-pub complete : (status words : ℕ) (before : Option (List ℕ)) (ReadFails WriteFails : Type 0) → (status ≡ 7 → WriteFails)
-    → IfSome before (λ bytes. words ≡ 0 → length bytes ≤ 2 ^ 28 → ¬ ReadFails → (status ≡ 8) ⊎ IsReplied (reply_to bytes) status)
-    → IfSome before (λ bytes. words ≡ 0 → length bytes ≤ 2 ^ 28 → HasNoRefusal bytes → ¬ ReadFails → ¬ WriteFails → (status ≡ 0) ⊎ (status ≡ 8))
-complete status words None ReadFails WriteFails fault reply = tt
-complete status words (Some bytes) ReadFails WriteFails fault reply = λ none short valid reads writes. valid_answered bytes status valid (λ seven. writes (fault seven)) (reply none short reads)
+pub complete : (status words : ℕ) (before : Option (List ℕ)) (faults_before faults_now : ℕ) (WriteFails : Type 0) → (status ≡ 7 → WriteFails)
+    → IfSome before (λ bytes. IsGiven words bytes faults_before faults_now → (status ≡ 8) ⊎ IsReplied (reply_to bytes) status)
+    → IfSome before (λ bytes. IsGiven words bytes faults_before faults_now → HasNoRefusal bytes → ¬ WriteFails → (status ≡ 0) ⊎ (status ≡ 8))
+complete status words None faults_before faults_now WriteFails fault reply = tt
+complete status words (Some bytes) faults_before faults_now WriteFails fault reply =
+    λ given valid writes. valid_answered bytes status valid (λ seven. writes (fault seven)) (reply given)
+
+-- with status 7 the sink's count of faults rose
+pub rose_at : (before now status : ℕ) → now ≡ faults_after (status == 7) before → status ≡ 7 → Rose before now
+rose_at before now status counted seven =
+    let one : now ≡ faults_after true before = subst (λ (k : ℕ). now ≡ faults_after (k == 7) before) seven counted in
+    omega (arith, one)

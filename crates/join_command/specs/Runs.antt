@@ -1,10 +1,12 @@
--- What a run of the program does to its streams.
-use Rattle.std.specs.Prelude.{ℕ, ◌≡◌, ◌^◌, ◌≤◌, ◌⊎◌, List, length, Option, Result, Ok, Err}
+-- What a run of the program does to its streams. A stream stands here as what it tells before the run and after it: the bytes that a
+-- source has left or a sink holds, and the count of faults.
+use Rattle.std.specs.Prelude.{ℕ, ◌≡◌, ◌+◌, ◌^◌, ◌<◌, ◌≤◌, ◌↔◌, ◌⊎◌, List, length, Option, Result, Ok, Err}
 use Rattle.std.specs.Io.KnownBytes.{prepend_known, append_known, IsAtEnd}
+use Rattle.byte_streams.specs.declared.whole.TheConstants.{PIECE}
 use Rattle.byte_streams.specs.Faults.{Rose}
 use Rattle.byte_streams.specs.Whole.{GrowsByFront}
 use Rattle.join_command.specs.declared.error.ToolError.{ToolError}
-use Rattle.join_command.specs.Errors.{status_of}
+use Rattle.join_command.specs.Errors.{status_of, line_of}
 use Rattle.join_command.specs.Replies.{reply_to}
 
 -- the statuses of the program
@@ -25,10 +27,43 @@ IsAnswered before now text = (bytes : List ℕ) × WasRead before now bytes × (
 abbrev pub IsRefused : Option (List ℕ) → Option (List ℕ) → ToolError → Type 0
 IsRefused before now e = (bytes : List ℕ) × WasRead before now bytes × (reply_to bytes ≡ Err e)
 
+-- A request was read from the source, and the text of its answer was written whole to the sink.
+pub record WritesAnswer (before now held grown : Option (List ℕ)) : Type 0 where
+  pub text : List ℕ
+  pub answered : IsAnswered before now text
+  pub written : grown ≡ append_known held text
+
+-- A request was read from the source, and a front of the text of its answer was written to the sink.
+pub record WritesFront (before now held grown : Option (List ℕ)) : Type 0 where
+  pub text : List ℕ
+  pub answered : IsAnswered before now text
+  pub written : GrowsByFront held grown text
+
+-- What was taken from the source: more than a request may have exactly with status 4, and then by at most a piece.
+pub record TakesFront (before now : Option (List ℕ)) (status : ℕ) : Type 0 where
+  pub taken : List ℕ
+  pub front : before ≡ prepend_known taken now
+  pub too_long : (status ≡ 4) ↔ (2 ^ 28 < length taken)
+  pub within : length taken ≤ 2 ^ 28 + PIECE
+
 -- A line was written to a sink: whole, or a front of it where the sink's count of faults rose.
 pub record WritesLine (before now : Option (List ℕ)) (faults_before faults_now : ℕ) (line : List ℕ) : Type 0 where
   pub front : GrowsByFront before now line
   pub whole : Rose faults_before faults_now ⊎ (now ≡ append_known before line)
+
+-- A run ended with the status of a cause and told its line on the error stream; with 5 and 6 the request was read, and the cause
+-- is its reply.
+pub record TellsCause (status : ℕ) (before now held grown : Option (List ℕ)) (faults_before faults_now : ℕ) : Type 0 where
+  pub cause : ToolError
+  pub is_status : status ≡ status_of cause
+  pub refused : 5 ≤ status → status ≤ 6 → IsRefused before now cause
+  pub line : WritesLine held grown faults_before faults_now (line_of cause)
+
+-- There are no words, and the source gave these bytes, no more than a request may have, without a fault.
+pub record IsGiven (words : ℕ) (bytes : List ℕ) (faults_before faults_now : ℕ) : Type 0 where
+  pub no_words : words ≡ 0
+  pub short : length bytes ≤ 2 ^ 28
+  pub sound : ¬ Rose faults_before faults_now
 
 -- the statuses for which memory, sources and sinks that do not fail leave room, by the reply to a request
 abbrev pub IsReplied : Result (List ℕ) ToolError → ℕ → Type 0

@@ -1,12 +1,12 @@
 //! Why the program does not answer: a status and a line for each cause.
 ghost use Rattle.std.specs.Prelude.{◌≡◌, ◌≤◌, ◌<◌, ◌++◌, length, codes, decimal};
 ghost use Rattle.join_command.specs.declared.error.ToolError.TheVariants as errors;
-ghost use Rattle.join_command.specs.Errors.{status_of, line_of, query_text, error_of_read};
+ghost use Rattle.join_command.specs.Errors.{status_of, line_of, request_text, query_text, error_of_read, error_of_request, error_of_query, error_of_text};
 
 use arrayvec::ArrayString;
 use itoa::Buffer;
 use join_engine::QueryError;
-use join_text::{ReadError, RequestError, WriteFault};
+use join_text::{ReadError, RequestError, TextError, WriteFault};
 use std::alloc::AllocError;
 
 /// A line, kept without memory.
@@ -36,7 +36,8 @@ fn numbered(text: &str, number: usize) -> Line
     line
 }
 
-/// Why the program does not answer. `status_of` has the exit status of each cause, and `line_of` the line that tells it.
+/// Why the program does not answer. `status_of` has the exit status of each cause, and `line_of` the line that tells it. Want of
+/// memory is `Memory`, whichever call wanted it: `Request` and `Query` keep their own causes alone.
 #[derive(Clone, Copy, PartialEq, Eq, Debug)]
 pub enum ToolError {
     /// The words are no command.
@@ -51,6 +52,8 @@ pub enum ToolError {
     Query(QueryError),
     /// The sink failed before the text was whole.
     WriteFault,
+    /// The text was not made, for another reason than want of memory. None is known.
+    TextFault,
     /// There was no memory.
     Memory,
 }
@@ -66,11 +69,10 @@ impl ToolError {
             ToolError::Usage => 2,
             ToolError::ReadFault => 3,
             ToolError::TooLong => 4,
-            ToolError::Request(RequestError::Memory) => 8,
             ToolError::Request(_) => 5,
-            ToolError::Query(QueryError::Memory) => 8,
             ToolError::Query(_) => 6,
             ToolError::WriteFault => 7,
+            ToolError::TextFault => 8,
             ToolError::Memory => 8,
         }
     }
@@ -83,18 +85,27 @@ impl ToolError {
             ToolError::Usage => plain("usage: join_tool or join_tool gen N"),
             ToolError::ReadFault => plain("read fault"),
             ToolError::TooLong => plain("request too long"),
-            ToolError::Request(RequestError::NotJson) => plain("not JSON"),
-            ToolError::Request(RequestError::Float) => plain("float in request"),
-            ToolError::Request(RequestError::Shape) => plain("not a request"),
-            ToolError::Request(RequestError::Memory) => plain("out of memory"),
+            ToolError::Request(e) => request_line(e),
             ToolError::Query(e) => query_line(e),
             ToolError::WriteFault => plain("write fault"),
+            ToolError::TextFault => plain("text fault"),
             ToolError::Memory => plain("out of memory"),
         }
     }
 }
 
-/// The line for a query that is not answered: the number and the name of the cause, and the place that it keeps.
+/// The line for bytes that are no request.
+fn request_line(e: RequestError) -> Line
+    ensures { result.bytes ≡ request_text e ++ codes "\n" }
+{
+    match e {
+        RequestError::NotJson => plain("not JSON"),
+        RequestError::Float => plain("float in request"),
+        _ => plain("not a request"),
+    }
+}
+
+/// The line for a query that is refused: the number and the name of the cause, and the place that it keeps.
 fn query_line(e: QueryError) -> Line
     ensures { result.bytes ≡ query_text e ++ codes "\n" }
 {
@@ -110,8 +121,8 @@ fn query_line(e: QueryError) -> Line
         QueryError::UnsupportedFilter => plain("query refused: 5 UnsupportedFilter"),
         QueryError::BadPlan => plain("query refused: 6 BadPlan"),
         QueryError::TooLarge => plain("query refused: 7 TooLarge"),
+        QueryError::Memory => plain("query refused: 8 Memory"),
         QueryError::NotBuilt => plain("query refused: 9 NotBuilt"),
-        QueryError::Memory => plain("out of memory"),
     }
 }
 
@@ -128,18 +139,35 @@ impl From<ReadError> for ToolError {
 }
 
 impl From<RequestError> for ToolError {
-    ghost from_gives = { λ request e. e ≡ errors.Request request };
+    ghost from_gives = { λ request e. e ≡ error_of_request request };
 
     fn from(e: RequestError) -> ToolError {
-        ToolError::Request(e)
+        match e {
+            RequestError::Memory => ToolError::Memory,
+            _ => ToolError::Request(e),
+        }
     }
 }
 
 impl From<QueryError> for ToolError {
-    ghost from_gives = { λ query e. e ≡ errors.Query query };
+    ghost from_gives = { λ query e. e ≡ error_of_query query };
 
     fn from(e: QueryError) -> ToolError {
-        ToolError::Query(e)
+        match e {
+            QueryError::Memory => ToolError::Memory,
+            _ => ToolError::Query(e),
+        }
+    }
+}
+
+impl From<TextError> for ToolError {
+    ghost from_gives = { λ text e. e ≡ error_of_text text };
+
+    fn from(e: TextError) -> ToolError {
+        match e {
+            TextError::Memory => ToolError::Memory,
+            TextError::Writer => ToolError::TextFault,
+        }
     }
 }
 

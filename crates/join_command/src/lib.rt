@@ -1,4 +1,11 @@
-//! The command `join_tool` as a function of streams: reads a request, answers it, and tells what it refuses.
+//! The command `join_tool` as a function of streams.
+//!
+//! [`run_tool`] reads a request, answers it, writes the text, and tells on an error stream what it
+//! refuses; its result is the exit status. What is promised: with 0 the whole text of the answer was
+//! written and nothing else; each other status has its cause and its line; and a request whose query
+//! has no refusal is answered, unless a stream fails or memory runs out. Begin with `run_tool`, whose
+//! clauses stand in the order of the statuses, with their words in `specs/Runs`; `specs/Replies`
+//! has what a request is answered by, and `specs/Errors` the statuses and lines.
 #![tactic(auto)]
 
 mod error;

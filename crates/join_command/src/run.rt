@@ -1,12 +1,9 @@
 //! The program over any source and sinks.
-ghost use Rattle.std.specs.Prelude.{◌≡◌, ◌≢◌, ◌⊎◌, ◌↔◌, ◌<◌, ◌≤◌, ◌^◌, ℕ, List, length, OnOk, OnErr, IfErr, IfSome, Ok};
-ghost use Rattle.std.specs.Io.KnownBytes.{prepend_known, append_known};
-ghost use Rattle.byte_streams.specs.Faults.{Rose};
-ghost use Rattle.byte_streams.specs.Whole.{GrowsByFront};
-ghost use Rattle.join_command.specs.declared.error.ToolError.{ToolError};
+ghost use Rattle.std.specs.Prelude.{◌≡◌, ◌≢◌, ◌⊎◌, ◌↔◌, ◌==◌, ◌<◌, ◌≤◌, length, OnOk, IfErr, IfSome};
+ghost use Rattle.byte_streams.specs.Faults.{Rose, faults_after};
 ghost use Rattle.join_command.specs.Errors.{status_of, line_of, status_after};
 ghost use Rattle.join_command.specs.Replies.{reply_to, HasNoRefusal};
-ghost use Rattle.join_command.specs.Runs.{IsStatus, IsAnswered, IsRefused, WritesLine, IsReplied};
+ghost use Rattle.join_command.specs.Runs.{IsStatus, IsRefused, WritesAnswer, WritesFront, TakesFront, WritesLine, TellsCause, IsGiven, IsReplied};
 
 use crate::{ToolError, answer_request};
 use join_text::{Sink, Source, read_to_end, write_all};
@@ -20,14 +17,16 @@ pub const REQUEST_LIMIT: usize = 1 << 28;
 /// Tells of an error in a line, and answers its status. A fault of the sink changes no status.
 pub fn report<E: Sink>(errors: &mut E, e: ToolError) -> u8
     ensures status { result ≡ status_of e }
-    ensures line { WritesLine (E.held errors.old) (E.held errors.new) (E.faults errors.old) (E.faults errors.new) (line_of e) }
+    ensures line { WritesLine (E.held errors.old) (E.held errors.new)
+        (E.faults errors.old) (E.faults errors.new) (line_of e) }
     ensures never_falls { E.faults errors.old ≤ E.faults errors.new }
 {
     let _ = write_all(errors, e.line().as_str().as_bytes());
     e.status()
 }
 
-/// Reads a request, answers it, and writes the text of the answer, where there are no words.
+/// Reads a request, answers it, and writes the text of the answer, where there are no words. The
+/// clauses are those of `run_tool`, without what the error stream is told.
 fn run_command<S: Source, O: Sink, L: Ledger>(
     alloc: Global,
     words: &[String],
@@ -35,15 +34,20 @@ fn run_command<S: Source, O: Sink, L: Ledger>(
     out: &mut O,
     steps: &mut Steps<L>,
 ) -> Result<(), ToolError>
+    ensures answered { OnOk result (WritesAnswer
+        (S.left source.old) (S.left source.new) (O.held out.old) (O.held out.new)) }
     ensures usage { (status_after result ≡ 2) ↔ (0 < length words.now) }
     ensures unread { status_after result ≡ 2 → source.new ≡ source.old }
-    ensures read_fault { status_after result ≡ 3 → Rose (S.faults source.old) (S.faults source.new) }
-    ensures too_long { (taken : List ℕ) × (S.left source.old ≡ prepend_known taken (S.left source.new)) × ((status_after result ≡ 4) ↔ (2 ^ 28 < length taken)) }
-    ensures refused { IfErr result (λ e. 5 ≤ status_of e → status_of e ≤ 6 → IsRefused (S.left source.old) (S.left source.new) e) }
-    ensures answered { OnOk result ((text : List ℕ) × IsAnswered (S.left source.old) (S.left source.new) text × (O.held out.new ≡ append_known (O.held out.old) text)) }
-    ensures write_fault { status_after result ≡ 7 → Rose (O.faults out.old) (O.faults out.new) }
-    ensures front { status_after result ≡ 7 → ((text : List ℕ) × IsAnswered (S.left source.old) (S.left source.new) text × GrowsByFront (O.held out.old) (O.held out.new) text) }
+    ensures taken { TakesFront (S.left source.old) (S.left source.new) (status_after result) }
+    ensures refused { IfErr result (λ e. 5 ≤ status_of e → status_of e ≤ 6 →
+        IsRefused (S.left source.old) (S.left source.new) e) }
+    ensures front { status_after result ≡ 7 → WritesFront
+        (S.left source.old) (S.left source.new) (O.held out.old) (O.held out.new) }
     ensures untouched { 2 ≤ status_after result → status_after result ≢ 7 → out.new ≡ out.old }
+    ensures read_faults { S.faults source.new ≡
+        faults_after (status_after result == 3) (S.faults source.old) }
+    ensures write_faults { O.faults out.new ≡
+        faults_after (status_after result == 7) (O.faults out.old) }
     ensures reads_never_fall { S.faults source.old ≤ S.faults source.new }
     ensures writes_never_fall { O.faults out.old ≤ O.faults out.new }
 {
@@ -56,8 +60,9 @@ fn run_command<S: Source, O: Sink, L: Ledger>(
     Ok(())
 }
 
-/// Runs the program: without words, answers the request that the source gives, and with words there is no command yet.
-/// Answers the exit status. A source or a sink that does not tell its bytes leaves the clauses on bytes without content.
+/// Runs the program: without words, answers the request that the source gives, and with words there
+/// is no command yet. Answers the exit status. A source or a sink that does not tell its bytes leaves
+/// the clauses on bytes without content.
 pub fn run_tool<S: Source, O: Sink, E: Sink, L: Ledger>(
     alloc: Global,
     words: &[String],
@@ -68,33 +73,41 @@ pub fn run_tool<S: Source, O: Sink, E: Sink, L: Ledger>(
 ) -> u8
     ensures status { IsStatus result }
 
-    // 0: the request was read, and the text of its answer was written whole, and nothing else anywhere.
-    ensures answered { result ≡ 0 → ((text : List ℕ) × IsAnswered (S.left source.old) (S.left source.new) text × (O.held out.new ≡ append_known (O.held out.old) text)) }
+    // 0: the request was read and the text of its answer written whole, and the error stream is as it was.
+    ensures answered { result ≡ 0 → WritesAnswer
+        (S.left source.old) (S.left source.new) (O.held out.old) (O.held out.new) }
     ensures quiet { result ≡ 0 → errors.new ≡ errors.old }
 
     // 2: exactly where there are words. The source is as it was.
     ensures usage { (result ≡ 2) ↔ (0 < length words.now) }
     ensures unread { result ≡ 2 → source.new ≡ source.old }
 
-    // 3: only where the source failed.
-    ensures read_fault { result ≡ 3 → Rose (S.faults source.old) (S.faults source.new) }
-
     // 4: exactly where more bytes were taken from the source than a request may have.
-    ensures too_long { (taken : List ℕ) × (S.left source.old ≡ prepend_known taken (S.left source.new)) × ((result ≡ 4) ↔ (2 ^ 28 < length taken)) }
+    ensures taken { TakesFront (S.left source.old) (S.left source.new) result }
 
-    // 5 and 6: the request was read, and it or its query is refused. Each status but 0: the line of the error is told.
-    ensures refused { result ≢ 0 → ((e : ToolError) × (result ≡ status_of e) × (5 ≤ result → result ≤ 6 → IsRefused (S.left source.old) (S.left source.new) e) × WritesLine (E.held errors.old) (E.held errors.new) (E.faults errors.old) (E.faults errors.new) (line_of e)) }
+    // Each but 0: the line of the cause is told; with 5 and 6 the cause is the reply to the request.
+    ensures refused { result ≢ 0 → TellsCause result (S.left source.old) (S.left source.new)
+        (E.held errors.old) (E.held errors.new) (E.faults errors.old) (E.faults errors.new) }
 
-    // 7: only where the sink failed, which holds a front of the text. With 2 to 6 and 8 the sink is as it was.
-    ensures write_fault { result ≡ 7 → Rose (O.faults out.old) (O.faults out.new) }
-    ensures front { result ≡ 7 → ((text : List ℕ) × IsAnswered (S.left source.old) (S.left source.new) text × GrowsByFront (O.held out.old) (O.held out.new) text) }
+    // 7: the sink has a front of the text. With 2 to 6 and 8 it is as it was.
+    ensures front { result ≡ 7 → WritesFront
+        (S.left source.old) (S.left source.new) (O.held out.old) (O.held out.new) }
     ensures untouched { 2 ≤ result → result ≢ 7 → out.new ≡ out.old }
 
-    // A request of at most 2^28 bytes that the source gives without a fault has its reply, unless memory runs out.
-    ensures replied { IfSome (S.left source.old) (λ bytes. length words.now ≡ 0 → length bytes ≤ 2 ^ 28 → ¬ Rose (S.faults source.old) (S.faults source.new) → (result ≡ 8) ⊎ IsReplied (reply_to bytes) result) }
+    // 3 and 7: exactly where the source or the sink failed, which is once, since nothing is read or written after it.
+    ensures read_faults { S.faults source.new ≡ faults_after (result == 3) (S.faults source.old) }
+    ensures write_faults { O.faults out.new ≡ faults_after (result == 7) (O.faults out.old) }
+
+    // A request that the source gives without a fault has its reply, unless memory runs out.
+    ensures replied { IfSome (S.left source.old) (λ bytes.
+        IsGiven (length words.now) bytes (S.faults source.old) (S.faults source.new) →
+        (result ≡ 8) ⊎ IsReplied (reply_to bytes) result) }
 
     // So where its query has no refusal, and the sink does not fail, it is answered, unless memory runs out.
-    ensures complete { IfSome (S.left source.old) (λ bytes. length words.now ≡ 0 → length bytes ≤ 2 ^ 28 → HasNoRefusal bytes → ¬ Rose (S.faults source.old) (S.faults source.new) → ¬ Rose (O.faults out.old) (O.faults out.new) → (result ≡ 0) ⊎ (result ≡ 8)) }
+    ensures complete { IfSome (S.left source.old) (λ bytes.
+        IsGiven (length words.now) bytes (S.faults source.old) (S.faults source.new) →
+        HasNoRefusal bytes → ¬ Rose (O.faults out.old) (O.faults out.new) →
+        (result ≡ 0) ⊎ (result ≡ 8)) }
     ensures reads_never_fall { S.faults source.old ≤ S.faults source.new }
     ensures writes_never_fall { O.faults out.old ≤ O.faults out.new }
     ensures errors_never_fall { E.faults errors.old ≤ E.faults errors.new }

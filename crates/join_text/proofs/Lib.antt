@@ -1,3 +1,0 @@
-pub mod RowRecords
-pub mod ReadBack
-pub mod FieldsApart

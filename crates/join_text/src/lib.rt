@@ -1,22 +1,22 @@
-//! Bytes in and out: the text of an answer, two tables as comma-separated records; and, under one roof with it, the
-//! reader of requests and the sources and sinks of bytes.
+//! Bytes in and out, for programs that answer requests.
+//!
+//! Bytes come from a [`Source`] and [`read_request`] says what they mean; [`answer_text`] is the text
+//! of an answer, its two tables as comma-separated records, which [`write_all`] writes to a [`Sink`].
+//! What is promised: the request is `request_of` the bytes (`join_request`), the text
+//! `answer_text_of` the two tables (`specs/Text`), and reads and writes are whole or say why not
+//! (`byte_streams`). Begin with [`answer_text`]; the texts of single tables stand in `table_text`.
 #![tactic(auto)]
 
 mod answer;
 mod examples;
-mod fields;
 mod laws;
-mod records;
-mod writer;
 
 pub use answer::answer_text;
 pub use byte_streams::{
-    MemorySink, MemorySource, Put, ReadError, Sink, Source, StdSink, StdSource, Took, WriteFault,
-    read_to_end, write_all,
+    MemorySink, MemorySource, PIECE, Put, ReadError, Sink, Source, StdSink, StdSource, Took,
+    WriteFault, read_to_end, write_all,
 };
-pub use examples::{answer_text_examples, field_text_examples, record_text_examples};
+pub use examples::answer_text_examples;
 pub use join_request::{Request, RequestError, read_request};
-pub use laws::{fields_tell_values_apart, text_reads_back};
-
-#[cfg(test)]
-mod tests;
+pub use laws::text_reads_back;
+pub use table_text::TextError;

@@ -7,7 +7,7 @@ abbrev pub invariant-loop-count : goal.invariant-loop-count
 invariant-loop-count g l = record {
   so_far : g.S.Source.left l.fn.source ≡ prepend_known l.bytes.items (g.S.Source.left l.source);
   within : length l.bytes.items ≤ l.most;
-  never_falls : g.S.Source.faults l.fn.source ≤ g.S.Source.faults l.source;
+  sound : g.S.Source.faults l.source ≡ g.S.Source.faults l.fn.source;
 }
 
 abbrev pub decreases-loop-count : goal.decreases-loop-count

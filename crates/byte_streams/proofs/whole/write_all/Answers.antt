@@ -1,4 +1,4 @@
-use Rattle.std.proofs.Common.{arith, length-drop}
+use Rattle.std.proofs.Common.{arith, length-drop, ◌∙◌}
 use Rattle.std.proofs.lemmas.List.{take_rest}
 use Rattle.byte_streams.proofs.Known.{grown_more}
 use Rattle.byte_streams.proofs.whole.write_all.Goals as goal
@@ -11,5 +11,5 @@ loop-written-preserved g c =
       so_far = grown_more (held c.args.sink.now) (held c.loop-written.sink) (held c.write.new.self) c.args.bytes.now c.loop-written.written c.in-Took.count
           c.loop-written.invariant.so_far took.2;
       within = omega (arith, took.1, length-drop c.loop-written.written c.args.bytes.now);
-      never_falls = omega (arith, c.in-Took.ensures.never_falls);
+      sound = c.in-Took.ensures.counted ∙ c.loop-written.invariant.sound;
     }

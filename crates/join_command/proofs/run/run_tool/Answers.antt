@@ -1,5 +1,7 @@
 use Rattle.std.proofs.Common.{length, sym, ◌∙◌}
-use Rattle.join_command.proofs.Told.{Says, replied, complete}
+use Rattle.byte_streams.specs.Faults.{Rose}
+use Rattle.join_command.specs.Errors.{status_of}
+use Rattle.join_command.proofs.Told.{Says, replied, complete, rose_at}
 use Rattle.join_command.proofs.run.run_tool.Goals as goal
 
 pub returns-in-Err-clause-replied : goal.returns-in-Err-clause-replied
@@ -12,15 +14,18 @@ returns-in-Err-clause-replied g c =
     let words = length c.args.words.now in
     let says : Says c.in-Err.e words before now (faults c.args.source.now) (faults c.run_command.new.source) = record {
       usage = run.usage.0;
-      read_fault = run.read_fault;
-      too_long = (run.too_long.0, run.too_long.1, run.too_long.2.0);
+      faults = run.read_faults;
+      taken = run.taken;
       refused = run.refused;
-      front = λ seven. let a = run.front seven in (a.0, a.1);
+      front = λ seven. let a = run.front seven in (a.text, a.answered);
     } in
     rw c.report.ensures.status (replied c.in-Err.e words before now (faults c.args.source.now) (faults c.run_command.new.source) says)
 
 pub returns-in-Err-clause-complete : goal.returns-in-Err-clause-complete
 returns-in-Err-clause-complete g c =
-    complete c.report.result (length c.args.words.now) (g.S.Source.left c.args.source.now) _ _
-    (λ seven. c.in-Err.ensures.write_fault (sym c.report.ensures.status ∙ seven))
+    let faults = g.S.Source.faults in
+    let before = g.O.Sink.faults c.args.out.now in
+    let now = g.O.Sink.faults c.run_command.new.out in
+    complete c.report.result (length c.args.words.now) (g.S.Source.left c.args.source.now) (faults c.args.source.now) (faults c.run_command.new.source) (Rose before now)
+    (λ seven. rose_at before now (status_of c.in-Err.e) c.in-Err.ensures.write_faults (sym c.report.ensures.status ∙ seven))
     (returns-in-Err-clause-replied g c)

@@ -10,8 +10,8 @@ returns-clause-took c =
     let n = c.copy_front-count.result in
     let left = drop s.taken s.bytes.items in
     let new = c.copy_front-count.new.to in
-    let copy = rw (take_rest, c.deref-2.ensures.value) at c.copy_front-count.ensures in
-    let test = rw (take_rest, c.deref-2.ensures.value) at c.is_empty.ensures in
+    let copy = rw (take_rest, c.deref.ensures.value) at c.copy_front-count.ensures in
+    let test = rw (take_rest, c.deref.ensures.value) at c.is_empty.ensures in
     let more : 0 < length left = omega (arith, eqb-false (length left) 0 (sym test ∙ c.if-is_empty.false)) in
     let front = copied_front s.piece n left c.args.buf.now new (omega arith) (omega arith) more copy.count copy.copied in
     (front.some, front.within, ap Some (sym (ap (λ v. v.left) c.self.view_is) ∙ (front.front ∙ ap (λ xs. take n new ++ xs) (drop-drop n s.taken s.bytes.items))))

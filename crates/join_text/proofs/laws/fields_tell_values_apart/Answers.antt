@@ -1,5 +1,0 @@
-use Rattle.join_text.proofs.FieldsApart.{apart}
-use Rattle.join_text.proofs.laws.fields_tell_values_apart.Goals as goal
-
-pub returns : goal.returns
-returns c = apart

@@ -1,0 +1,66 @@
+//! The texts of tables.
+ghost use Rattle.std.specs.Prelude.{◌≡◌, ◌++◌, IfOk, OnOk};
+ghost use Rattle.table_text.specs.Records.{table_records, records_text};
+ghost use Rattle.table_text.specs.Writers.{IsBetweenRecords, text_so_far};
+
+use crate::TextError;
+use crate::records::{fill_header, fill_row};
+use crate::writer::{record_writer, write_record, written_text};
+use col_core::{Blob, Frame};
+use csv::{ByteRecord, Writer};
+use std::alloc::Global;
+
+/// The text of a table: its header, and one record a row, in row order.
+///
+/// Commas stand between fields, fields that need it are quoted, and a line feed ends each record. The
+/// first field of each record is `mark`. The header has the names of the columns, and each other
+/// record the values of a row: `\N` for a null, whole numbers in decimal, bytes in lower-case
+/// hexadecimal, and a text with one more `\` in front if it begins with one. It takes memory for
+/// the text and for one record at a time.
+pub fn frame_text(alloc: Global, mark: &str, frame: &Frame) -> Result<Blob, TextError>
+    ensures { IfOk result (λ text. text ≡ records_text (table_records mark.now frame.now)) }
+{
+    let mut writer = record_writer(alloc);
+    write_table(alloc, &mut writer, mark, frame)?;
+    Ok(Blob::new(alloc, &written_text(writer)?)?)
+}
+
+/// The text of two tables, one after the other, each as [`frame_text`] writes it. Their widths may differ.
+pub fn tables_text(
+    alloc: Global,
+    first_mark: &str,
+    first: &Frame,
+    second_mark: &str,
+    second: &Frame,
+) -> Result<Blob, TextError>
+    ensures { IfOk result (λ text. text ≡ records_text (
+        table_records first_mark.now first.now ++ table_records second_mark.now second.now)) }
+{
+    let mut writer = record_writer(alloc);
+    write_table(alloc, &mut writer, first_mark, first)?;
+    write_table(alloc, &mut writer, second_mark, second)?;
+    Ok(Blob::new(alloc, &written_text(writer)?)?)
+}
+
+/// Writes the records of a table, each with the mark as its first field.
+fn write_table(
+    alloc: Global,
+    writer: &mut Writer<Vec<u8>>,
+    mark: &str,
+    table: &Frame,
+) -> Result<(), TextError>
+    requires { IsBetweenRecords writer.old }
+    ensures between { OnOk result (IsBetweenRecords writer.new) }
+    ensures text { OnOk result (text_so_far writer.new ≡
+        text_so_far writer.old ++ records_text (table_records mark.now table.now)) }
+{
+    let mut record = ByteRecord::new(alloc);
+    let mut spare = Vec::new(alloc);
+    fill_header(&mut record, mark, table.schema())?;
+    write_record(writer, &record)?;
+    for i in 0..table.height() {
+        fill_row(&mut record, alloc, &mut spare, mark, table, i)?;
+        write_record(writer, &record)?;
+    }
+    Ok(())
+}
