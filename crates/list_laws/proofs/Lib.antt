@@ -4,3 +4,5 @@ pub mod Filters
 pub mod Positions
 pub mod Pointwise
 pub mod Distinct
+pub mod Each
+pub mod Pointwise
