@@ -1,8 +1,7 @@
 pub mod Halves
 pub mod Maps
+pub mod Each
 pub mod Filters
 pub mod Positions
 pub mod Pointwise
 pub mod Distinct
-pub mod Each
-pub mod Pointwise
