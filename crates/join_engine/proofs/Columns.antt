@@ -11,14 +11,13 @@ use Rattle.col_core.specs.declared.schema.Field.{Field}
 use Rattle.col_core.specs.declared.data_type.DataType.{DataType}
 use Rattle.col_core.specs.declared.data_type.DataType.TheVariants.{Binary}
 use Rattle.col_core.specs.Schemas.{field_position, type_named}
-use Rattle.col_core.specs.Tables.{header, Column}
+use Rattle.col_core.specs.Tables.{header, Column, field_at, no_field}
 use Rattle.join_query.specs.declared.query.Query.{Query}
 use Rattle.join_query.specs.declared.query.Side.TheVariants as sides
 use Rattle.join_query.specs.declared.query.ColumnRef.{ColumnRef}
 use Rattle.join_model.specs.Answers.{prefixed, joined_schema}
 use Rattle.join_model.specs.ColumnRefs.{schema_of, ref_type}
 use Rattle.join_query.specs.Names.{side_prefix}
-use Rattle.join_engine.specs.Places.{field_at, no_field}
 use Rattle.join_engine.proofs.Gathered.{field_found}
 
 -- the type of the first field of a name, found at its place

@@ -10,60 +10,60 @@ use Rattle.col_core.specs.declared.leaf.Leaf.{Leaf}
 use Rattle.col_core.specs.declared.leaf.Leaf.TheVariants as leaves
 use Rattle.col_core.specs.declared.schema.Field.{Field}
 use Rattle.col_core.specs.Values.{value_at}
-use Rattle.col_core.specs.Tables.{Row, Table, Column, rows_from, header, values_of}
+use Rattle.col_core.specs.Tables.{Row, Table, Column, rows_from, header, values_of, no_field, field_at}
 use Rattle.list_laws.proofs.Maps.{map_agree, map_agree_on}
 use Rattle.col_core.proofs.Rows.{transposed}
 use Rattle.join_model.specs.Answers.{prefixed}
-use Rattle.join_engine.specs.declared.places.RowPlace.{RowPlace}
+use Rattle.col_core.specs.declared.row_place.RowPlace.{RowPlace}
+use Rattle.col_core.specs.Places.{no_table, row_of, IsPlace, IsPlaceIn, placed_value, type_at}
 use Rattle.join_engine.specs.declared.pairs.Pair.{Pair}
-use Rattle.join_engine.specs.Places.{row_of, IsPlace, AllHave, no_table, no_field, field_at, placed_values, gathered, gathered_column}
+use Rattle.join_engine.specs.Places.{IsRowPlace, AllHave, gathered, gathered_column}
 use Rattle.join_engine.specs.Pairs.{pair_row, IsPair}
 
 -- the field that was found at a place
 pub field_found : (schema : List Field) (c : ℕ) (f : Field) → slice_get schema c ≡ Some f → field_at schema c ≡ f
 field_found schema c f h = get_or_from_slice_get schema c f no_field h
 
--- a column's type, in a frame of the schema
-pub type_in_frame : (schema : List Field) (frames : List Table) (place : RowPlace) (frame : Table) (c : ℕ) (column : Column) → AllHave schema frames → IsPlace frames place → frame ≡ get_or frames place.frame frame → slice_get frame.schema c ≡ Some (header column) → column.dtype ≡ (field_at schema c).dtype
-type_in_frame schema frames place frame c column have inside e h =
-    let same : frame.schema ≡ schema = rw e (All-get_or (λ (t : Table). t.schema ≡ schema) frames place.frame frame inside.frame have) in
-    ap (λ (f : Field). f.dtype) (sym (field_found frame.schema c (header column) h)) ∙ ap (λ (s : List Field). (field_at s c).dtype) same
+-- each frame of the schema has the type of a field at its place
+pub types_in_frames : (schema : List Field) (frames : List Table) (c : ℕ) (f : Field) → AllHave schema frames → slice_get schema c ≡ Some f → All (λ (t : Table). type_at t.schema c ≡ Some f.dtype) frames
+types_in_frames schema frames c f have found =
+    All-weaker (λ (t : Table). t.schema ≡ schema) (λ (t : Table). type_at t.schema c ≡ Some f.dtype) (λ t same. rw (same, found) refl) frames have
 
-pub ruleset gathering = (field_found, type_in_frame)
+pub ruleset gathering = (field_found, types_in_frames)
 
 -- the headers of gathered columns are the fields, each name after the prefix
-pub headers_gathered : (prefix : List ℕ) (schema : List Field) (frames : List Table) (places : List RowPlace) → map header (gathered prefix schema frames places) ≡ prefixed prefix schema
+pub headers_gathered : (prefix : List ℕ) (schema : List Field) (frames : List Table) (places : List (Option RowPlace)) → map header (gathered prefix schema frames places) ≡ prefixed prefix schema
 headers_gathered prefix schema frames places =
     let named : Field → Field = λ f. record { name = prefix ++ f.name; dtype = f.dtype } in
     map-map header (gathered_column prefix schema frames places) (range_with_len 0 (length schema))
     ∙ sym (fill_by_all (λ c. named (field_at schema c)) (map named schema) (length schema) no_field (length-map schema named) (λ k h. get_or-map named schema k no_field no_field h))
 
 -- gathered columns are as long as the places
-pub long_gathered : (prefix : List ℕ) (schema : List Field) (frames : List Table) (places : List RowPlace) → All (λ (c : Column). length c.values ≡ length places) (gathered prefix schema frames places)
-long_gathered prefix schema frames places = All-map (λ (c : Column). length c.values ≡ length places) (gathered_column prefix schema frames places) (range_with_len 0 (length schema)) (λ k d l. length-map places (λ place. value_at (row_of frames place) (get_or (range_with_len 0 (length schema)) k d)))
+pub long_gathered : (prefix : List ℕ) (schema : List Field) (frames : List Table) (places : List (Option RowPlace)) → All (λ (c : Column). length c.values ≡ length places) (gathered prefix schema frames places)
+long_gathered prefix schema frames places = All-map (λ (c : Column). length c.values ≡ length places) (gathered_column prefix schema frames places) (range_with_len 0 (length schema)) (λ k d l. length-map places (placed_value frames (get_or (range_with_len 0 (length schema)) k d)))
 
 -- a row is its values
 row_whole : (row : Row) (width : ℕ) → length row ≡ width → map (value_at row) (range_with_len 0 width) ≡ row
 row_whole row width h = sym (fill_by_all (value_at row) row width leaves.Null h (λ k l. refl))
 
 -- a row at a place in frames of a schema is as wide as the schema
-wide_at : (schema : List Field) (frames : List Table) (place : RowPlace) → AllHave schema frames → IsPlace frames place → length (row_of frames place) ≡ length schema
-wide_at schema frames place have inside = inside.width ∙ ap length (All-get_or (λ (t : Table). t.schema ≡ schema) frames place.frame no_table inside.frame have)
+wide_at : (schema : List Field) (frames : List Table) (place : RowPlace) → AllHave schema frames → IsRowPlace frames place → length (row_of frames place) ≡ length schema
+wide_at schema frames place have inside = inside.width ∙ ap length (All-get_or (λ (t : Table). t.schema ≡ schema) frames place.frame no_table inside.inside.frame have)
 
 -- the places of pairs, side by side
-pub probe_inside : (P B : List Table) (pairs : List Pair) → All (IsPair P B) pairs → All (IsPlace P) (map (λ (pr : Pair). pr.probe) pairs)
-probe_inside P B pairs inside = All-map (IsPlace P) (λ (pr : Pair). pr.probe) pairs (All-weaker (IsPair P B) (λ (pr : Pair). IsPlace P pr.probe) (λ pr h. h.probe_place) pairs inside)
+pub probe_inside : (P B : List Table) (pairs : List Pair) → All (IsPair P B) pairs → All (IsPlaceIn P) (map (λ (pr : Pair). Some pr.probe) pairs)
+probe_inside P B pairs inside = All-map (IsPlaceIn P) (λ (pr : Pair). Some pr.probe) pairs (All-weaker (IsPair P B) (λ (pr : Pair). IsPlace P pr.probe) (λ pr h. h.probe_place.inside) pairs inside)
 
-pub build_inside : (P B : List Table) (pairs : List Pair) → All (IsPair P B) pairs → All (IsPlace B) (map (λ (pr : Pair). pr.build) pairs)
-build_inside P B pairs inside = All-map (IsPlace B) (λ (pr : Pair). pr.build) pairs (All-weaker (IsPair P B) (λ (pr : Pair). IsPlace B pr.build) (λ pr h. h.build_place) pairs inside)
+pub build_inside : (P B : List Table) (pairs : List Pair) → All (IsPair P B) pairs → All (IsPlaceIn B) (map (λ (pr : Pair). Some pr.build) pairs)
+build_inside P B pairs inside = All-map (IsPlaceIn B) (λ (pr : Pair). Some pr.build) pairs (All-weaker (IsPair P B) (λ (pr : Pair). IsPlace B pr.build) (λ pr h. h.build_place.inside) pairs inside)
 
 -- the columns of both sides, gathered at the places of pairs
 module _ (P B : List Table) (ps bs : List Field) (pairs : List Pair) (front back : List ℕ) where
-  abbrev probe_places : List RowPlace
-  probe_places = map (λ (pr : Pair). pr.probe) pairs
+  abbrev probe_places : List (Option RowPlace)
+  probe_places = map (λ (pr : Pair). Some pr.probe) pairs
 
-  abbrev build_places : List RowPlace
-  build_places = map (λ (pr : Pair). pr.build) pairs
+  abbrev build_places : List (Option RowPlace)
+  build_places = map (λ (pr : Pair). Some pr.build) pairs
 
   abbrev pub both : List Column
   both = gathered front ps P probe_places ++ gathered back bs B build_places
@@ -72,8 +72,8 @@ module _ (P B : List Table) (ps bs : List Field) (pairs : List Pair) (front back
   long_both =
       let Long : ℕ → Column → Type 0 = λ n c. length c.values ≡ n in
       All-append (Long (length pairs)) (gathered front ps P probe_places) (gathered back bs B build_places)
-      (subst (λ (n : ℕ). All (Long n) (gathered front ps P probe_places)) (length-map pairs (λ (pr : Pair). pr.probe)) (long_gathered front ps P probe_places))
-      (subst (λ (n : ℕ). All (Long n) (gathered back bs B build_places)) (length-map pairs (λ (pr : Pair). pr.build)) (long_gathered back bs B build_places))
+      (subst (λ (n : ℕ). All (Long n) (gathered front ps P probe_places)) (length-map pairs (λ (pr : Pair). Some pr.probe)) (long_gathered front ps P probe_places))
+      (subst (λ (n : ℕ). All (Long n) (gathered back bs B build_places)) (length-map pairs (λ (pr : Pair). Some pr.build)) (long_gathered back bs B build_places))
 
   abbrev probe_value : ℕ → Pair → Leaf
   probe_value c pr = value_at (row_of P pr.probe) c
@@ -86,10 +86,11 @@ module _ (P B : List Table) (ps bs : List Field) (pairs : List Pair) (front back
 
   -- one side's values, pair by pair
   values_side : (frames : List Table) (side : Pair → RowPlace) (prefix : List ℕ) (schema : List Field)
-      → values_of (gathered prefix schema frames (map side pairs)) ≡ map (λ (f : Pair → Leaf). map f pairs) (map (λ c pr. value_at (row_of frames (side pr)) c) (range_with_len 0 (length schema)))
+      → values_of (gathered prefix schema frames (map (λ pr. Some (side pr)) pairs)) ≡ map (λ (f : Pair → Leaf). map f pairs) (map (λ c pr. value_at (row_of frames (side pr)) c) (range_with_len 0 (length schema)))
   values_side frames side prefix schema =
-      map-map (λ (c : Column). c.values) (gathered_column prefix schema frames (map side pairs)) (range_with_len 0 (length schema))
-      ∙ map_agree (placed_values frames (map side pairs)) (λ c. map (λ pr. value_at (row_of frames (side pr)) c) pairs) (λ c. map-map (λ place. value_at (row_of frames place) c) side pairs) (range_with_len 0 (length schema))
+      let places : List (Option RowPlace) = map (λ pr. Some (side pr)) pairs in
+      map-map (λ (c : Column). c.values) (gathered_column prefix schema frames places) (range_with_len 0 (length schema))
+      ∙ map_agree (λ c. map (placed_value frames c) places) (λ c. map (λ pr. value_at (row_of frames (side pr)) c) pairs) (λ c. map-map (placed_value frames c) (λ (pr : Pair). Some (side pr)) pairs) (range_with_len 0 (length schema))
       ∙ sym (map-map (λ (f : Pair → Leaf). map f pairs) (λ c pr. value_at (row_of frames (side pr)) c) (range_with_len 0 (length schema)))
 
   values_both : values_of both ≡ map (λ (f : Pair → Leaf). map f pairs) readers
@@ -118,7 +119,7 @@ module _ (P B : List Table) (ps bs : List Field) (pairs : List Pair) (front back
       ∙ ap (λ (fs : List Field). prefixed front ps ++ fs) (headers_gathered back bs B build_places)
 
   -- columns appended side by side are those of both sides
-  pub both_appended : (ls rs : List RowPlace) (new first all : List Column) → ls ≡ probe_places → rs ≡ build_places → new ≡ [] → first ≡ new ++ gathered front ps P ls → all ≡ first ++ gathered back bs B rs → all ≡ both
+  pub both_appended : (ls rs : List (Option RowPlace)) (new first all : List Column) → ls ≡ probe_places → rs ≡ build_places → new ≡ [] → first ≡ new ++ gathered front ps P ls → all ≡ first ++ gathered back bs B rs → all ≡ both
   both_appended ls rs new first all l r n f a =
       a ∙ ap (λ (cs : List Column). cs ++ gathered back bs B rs) (f ∙ ap (λ (cs : List Column). cs ++ gathered front ps P ls) n)
       ∙ rw (l, r) refl

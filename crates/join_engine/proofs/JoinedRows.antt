@@ -7,18 +7,19 @@ use Rattle.std.proofs.lemmas.List.Elements.{All-map, All-append, All-filter, All
 use Rattle.list_laws.proofs.Filters.{filter-none, filter-all}
 use Rattle.col_core.specs.declared.leaf.Leaf.{Leaf}
 use Rattle.col_core.specs.declared.schema.Field.{Field}
-use Rattle.col_core.specs.Values.{value_at, is_null}
+use Rattle.col_core.specs.Values.{value_at, is_null, leaf_eq}
 use Rattle.col_core.specs.Tables.{Row, Table}
 use Rattle.join_query.specs.declared.query.Query.{Query}
-use Rattle.join_model.specs.Keys.{leaf_eq, tuple, joins}
+use Rattle.join_model.specs.Keys.{tuple, joins}
 use Rattle.join_model.specs.Joined.{rows_of, rows_join, with_partners, rows_of_probe, is_outer, nulls, joined_rows}
 use Rattle.join_model.specs.Filtered.{passes}
 use Rattle.join_model.specs.Refusals.{lists_too_many}
-use Rattle.join_engine.specs.declared.places.RowPlace.{RowPlace}
+use Rattle.col_core.specs.declared.row_place.RowPlace.{RowPlace}
 use Rattle.join_engine.specs.declared.pairs.Keyed.{Keyed}
 use Rattle.join_engine.specs.declared.pairs.ProbeError.{ProbeError}
 use Rattle.join_engine.specs.declared.pairs.ProbeError.TheVariants.{TooLarge, Memory}
-use Rattle.join_engine.specs.Places.{row_of, IsPlace}
+use Rattle.col_core.specs.Places.{row_of}
+use Rattle.join_engine.specs.Places.{IsRowPlace}
 use Rattle.join_engine.specs.Pairs.{key_joins, paired, pairs_of, matched, keyed_at, pair_row, IsPair, IsKeyedSide, ProbeFails}
 use Rattle.join_engine.specs.Simple.{IsSimple}
 
@@ -97,14 +98,14 @@ module _ (q : Query) (B P : List Table) (simple : IsSimple q B P) (bs ps : List 
   refusal_has_cause Memory h = inl refl
 
   -- the places of a side's rows
-  placed : (frames : List Table) (column : ℕ) (rows : List Keyed) (places : List RowPlace) → rows ≡ map (keyed_at frames column) places → All (IsPlace frames) places → All (λ (k : Keyed). IsPlace frames k.place) rows
-  placed frames column rows places e inside = subst (All (λ (k : Keyed). IsPlace frames k.place)) (sym e) (All-map (λ (k : Keyed). IsPlace frames k.place) (keyed_at frames column) places inside)
+  placed : (frames : List Table) (column : ℕ) (rows : List Keyed) (places : List RowPlace) → rows ≡ map (keyed_at frames column) places → All (IsRowPlace frames) places → All (λ (k : Keyed). IsRowPlace frames k.place) rows
+  placed frames column rows places e inside = subst (All (λ (k : Keyed). IsRowPlace frames k.place)) (sym e) (All-map (λ (k : Keyed). IsRowPlace frames k.place) (keyed_at frames column) places inside)
 
-  paired_inside : (kb kp : List Keyed) → All (λ (b : Keyed). IsPlace B b.place) kb → All (λ (p : Keyed). IsPlace P p.place) kp → All (IsPair P B) (matched kb kp)
+  paired_inside : (kb kp : List Keyed) → All (λ (b : Keyed). IsRowPlace B b.place) kb → All (λ (p : Keyed). IsRowPlace P p.place) kp → All (IsPair P B) (matched kb kp)
   paired_inside kb [] hb hp = All-nil (IsPair P B)
   paired_inside kb (p ∷ kp) hb hp = All-append (IsPair P B) (pairs_of kb p) (matched kb kp)
-      (All-map (IsPair P B) (paired p) (filter (key_joins p) kb) (All-weaker (λ (b : Keyed). IsPlace B b.place) (λ (b : Keyed). IsPair P B (paired p b)) (λ b h. record { probe_place = All-head (λ (k : Keyed). IsPlace P k.place) p kp hp; build_place = h }) (filter (key_joins p) kb) (All-filter (key_joins p) (λ (b : Keyed). IsPlace B b.place) kb hb)))
-      (paired_inside kb kp hb (All-tail (λ (k : Keyed). IsPlace P k.place) p kp hp))
+      (All-map (IsPair P B) (paired p) (filter (key_joins p) kb) (All-weaker (λ (b : Keyed). IsRowPlace B b.place) (λ (b : Keyed). IsPair P B (paired p b)) (λ b h. record { probe_place = All-head (λ (k : Keyed). IsRowPlace P k.place) p kp hp; build_place = h }) (filter (key_joins p) kb) (All-filter (key_joins p) (λ (b : Keyed). IsRowPlace B b.place) kb hb)))
+      (paired_inside kb kp hb (All-tail (λ (k : Keyed). IsRowPlace P k.place) p kp hp))
 
   -- the pairs stand within the frames
   pub pairs_inside : All (IsPair P B) (matched bs ps)

@@ -3,7 +3,8 @@ use Rattle.std.proofs.Common.{◌≡◌, ℕ, zero, suc, ◌+◌, ◌<◌, ◌�
 use Rattle.std.proofs.lemmas.List.{length-append, take_more, flat_map_more, get_or_default}
 use Rattle.col_core.specs.Tables.{Table, AreWide}
 use Rattle.join_model.specs.Joined.{rows_of}
-use Rattle.join_engine.specs.Places.{no_table, row_of, IsPlace}
+use Rattle.col_core.specs.Places.{no_table, row_of}
+use Rattle.join_engine.specs.Places.{IsRowPlace}
 
 -- a frame has at most all rows
 pub frame_rows_le : (fs : List Table) (f : ℕ) (t : Table) → f < length fs → t ≡ get_or fs f t → length t.rows ≤ length (rows_of fs)
@@ -24,10 +25,9 @@ pub row_is : (fs : List Table) (f i : ℕ) (t : Table) → f < length fs → t �
 row_is fs f i t h e = ap (λ (x : Table). get_or x.rows i []) (frame_is fs f t h e)
 
 -- a place in a frame
-pub place_in : (fs : List Table) (f i : ℕ) (t : Table) → f < length fs → t ≡ get_or fs f t → i < length t.rows → AreWide t → IsPlace fs (record { frame = f; row = i })
+pub place_in : (fs : List Table) (f i : ℕ) (t : Table) → f < length fs → t ≡ get_or fs f t → i < length t.rows → AreWide t → IsRowPlace fs (record { frame = f; row = i })
 place_in fs f i t h e k wide = record {
-  frame = h;
-  row = rw (frame_is fs f t h e) k;
+  inside = record { frame = h; row = rw (frame_is fs f t h e) k };
   width = ap length (row_is fs f i t h e) ∙ wide i [] k ∙ ap (λ (x : Table). length x.schema) (sym (frame_is fs f t h e));
 }
 

@@ -2,13 +2,14 @@
 use Rattle.std.specs.Prelude.{◌≡◌, ℕ, ◌<◌, Bool, ◌&&◌, not, List, [], ◌∷◌, ◌++◌, map, filter, length}
 use Rattle.std.specs.List.{flat_map, All}
 use Rattle.col_core.specs.declared.schema.Field.{Field}
-use Rattle.col_core.specs.Values.{value_at, is_null}
+use Rattle.col_core.specs.Values.{value_at, is_null, leaf_eq}
 use Rattle.col_core.specs.Tables.{Row, Table}
-use Rattle.join_engine.specs.declared.places.RowPlace.{RowPlace}
-use Rattle.join_engine.specs.Places.{row_of, IsPlace}
+use Rattle.col_core.specs.declared.row_place.RowPlace.{RowPlace}
+use Rattle.col_core.specs.Places.{row_of}
+use Rattle.join_engine.specs.Places.{IsRowPlace}
 use Rattle.join_query.specs.declared.error.QueryError.{QueryError}
 use Rattle.join_query.specs.declared.error.QueryError.TheVariants as queries
-use Rattle.join_model.specs.Keys.{leaf_eq, tuple}
+use Rattle.join_model.specs.Keys.{tuple}
 use Rattle.join_model.specs.Joined.{rows_of}
 use Rattle.join_engine.specs.declared.pairs.Keyed.{Keyed}
 use Rattle.join_engine.specs.declared.pairs.Pair.{Pair}
@@ -50,7 +51,7 @@ pub record IsKeyedSide (schema : List Field) (names : List (List ℕ)) (frames :
   pub places : List RowPlace
   pub are : rows ≡ map (keyed_at frames column) places
   pub whole : map (row_of frames) places ≡ rows_of frames
-  pub inside : All (IsPlace frames) places
+  pub inside : All (IsRowPlace frames) places
   pub key : (row : Row) → tuple schema names row ≡ value_at row column ∷ []
 
 -- the row of a pair
@@ -59,5 +60,5 @@ pair_row probe build pr = row_of probe pr.probe ++ row_of build pr.build
 
 -- the places of a pair are within the frames
 pub record IsPair (probe build : List Table) (pr : Pair) : Type 0 where
-  pub probe_place : IsPlace probe pr.probe
-  pub build_place : IsPlace build pr.build
+  pub probe_place : IsRowPlace probe pr.probe
+  pub build_place : IsRowPlace build pr.build

@@ -2,34 +2,30 @@
 ghost use Rattle.std.specs.Prelude.{◌≡◌, ◌<◌, ◌++◌, length, IfOk, OnOk, map};
 ghost use Rattle.std.specs.List.{All};
 ghost use Rattle.col_core.specs.Tables.{header, rows_from, values_of};
-ghost use Rattle.join_engine.specs.Places.{IsPlace, AllHave, gathered, gathered_column};
+ghost use Rattle.col_core.specs.Places.{IsPlaceIn};
+ghost use Rattle.join_engine.specs.Places.{AllHave, gathered, gathered_column};
 
-use crate::places::RowPlace;
-use col_core::{ColumnBuilder, Field, Frame, Name, Schema, Series};
+use col_core::{Field, Frame, Name, RowPlace, Schema, Series, gather_column};
 use std::alloc::{AllocError, Global};
 
 /// A column of the rows at places, its name after a prefix.
-fn gather_column(
+#[tactic(auto, using(crate::proofs::Gathered::gathering))]
+fn gathered_column(
     alloc: Global,
     prefix: &str,
     schema: &Schema,
     frames: &[Frame],
-    places: &[RowPlace],
+    places: &[Option<RowPlace>],
     c: usize,
 ) -> Result<Series, AllocError>
     requires have { AllHave schema.now frames.now }
-    requires places { All (IsPlace frames.now) places.now }
+    requires places { All (IsPlaceIn frames.now) places.now }
     requires column { c < length schema.now }
     ensures { IfOk result (λ s. s ≡ gathered_column prefix.now schema.now frames.now places.now c) }
 {
     let field = schema.field(c);
-    let mut built = ColumnBuilder::new(alloc, field.dtype);
-    for place in places {
-        let frame = &frames[place.frame as usize];
-        let _height = frame.height();
-        built.push_from(frame.column(c), place.row as usize)?;
-    }
-    built.finish(alloc, Name::joined(alloc, prefix, field.name.as_str())?)
+    let name = Name::joined(alloc, prefix, field.name.as_str())?;
+    gather_column(alloc, name, field.dtype, frames, c, places)
 }
 
 /// Appends all columns of the rows at places, their names after a prefix.
@@ -38,15 +34,15 @@ pub fn gather(
     prefix: &str,
     schema: &Schema,
     frames: &[Frame],
-    places: &[RowPlace],
+    places: &[Option<RowPlace>],
     columns: &mut Vec<Series>,
 ) -> Result<(), AllocError>
     requires have { AllHave schema.now frames.now }
-    requires places { All (IsPlace frames.now) places.now }
+    requires places { All (IsPlaceIn frames.now) places.now }
     ensures { OnOk result (columns.new.items ≡ columns.old.items ++ gathered prefix.now schema.now frames.now places.now) }
 {
     for c in 0..schema.len() {
-        columns.push(gather_column(alloc, prefix, schema, frames, places, c)?)?;
+        columns.push(gathered_column(alloc, prefix, schema, frames, places, c)?)?;
     }
     Ok(())
 }

@@ -14,7 +14,7 @@ ghost use Rattle.join_engine.specs.Totals.{totals_table};
 
 use crate::gather::frame_of_columns;
 use crate::totals::{Totals, entries, group_totals};
-use col_core::{ColumnBuilder, DataType, Frame, Leaf, List, Name, Series};
+use col_core::{ColumnBuilder, DataType, Frame, Leaf, LeafRef, List, Name, Series};
 use join_model::{ColumnRef, Query, Reduction, Side, kind_name, side_prefix};
 use std::alloc::{AllocError, Global};
 
@@ -77,7 +77,7 @@ fn total_column(alloc: Global, totals: &[i64], name: Name) -> Result<Series, All
 {
     let mut built = ColumnBuilder::new(alloc, DataType::Int64);
     for z in totals {
-        built.push_leaf(&Leaf::Whole(*z as i128))?;
+        built.push_ref(LeafRef::Whole(*z as i128))?;
     }
     built.finish(alloc, name)
 }

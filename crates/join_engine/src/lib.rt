@@ -9,6 +9,7 @@ mod pairs;
 mod places;
 mod totals;
 
+pub use col_core::RowPlace;
 pub use engine::{Answer, stream_join_aggregate};
 pub use join_model::{
     ColumnRef, DEFAULT_PLAN, Filter, FilterOp, IntLiteral, Operand, Plan, Query, QueryError,

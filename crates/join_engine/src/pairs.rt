@@ -1,17 +1,17 @@
 //! The pairs of rows that join.
-ghost use Rattle.std.specs.Prelude.{◌⊎◌, true, false, ◌≡◌, ◌<◌, ◌≤◌, ◌^◌, [], ◌∷◌, ◌++◌, length, IfOk, IfErr, OnOk, map, codes};
+ghost use Rattle.std.specs.Prelude.{◌⊎◌, Some, true, false, ◌≡◌, ◌<◌, ◌≤◌, ◌^◌, [], ◌∷◌, ◌++◌, length, IfOk, IfErr, OnOk, map, codes};
 ghost use Rattle.join_model.specs.Joined.{rows_of, joined_rows};
 ghost use Rattle.join_model.specs.Refusals.{is_too_large, lists_too_many};
 ghost use Rattle.join_engine.specs.Pairs.{pairs_of, matched, ProbeFails, keyed_at, pair_row, IsPair, IsKeyedSide};
 ghost use Rattle.join_engine.specs.Simple.{IsSimple, is_one_name};
-ghost use Rattle.join_engine.specs.Places.{IsPlace, AllHave};
+ghost use Rattle.join_engine.specs.Places.{IsRowPlace, AllHave};
 ghost use Rattle.join_model.specs.Answers.{joined_schema};
 ghost use Rattle.std.specs.List.{All};
 
 use crate::gather::{frame_of_columns, gather};
-use crate::keys::{is_null_leaf, key_place, leaf_eq};
-use crate::places::{RowPlace, places, value_of};
-use col_core::{Frame, Leaf, Name, Schema};
+use crate::keys::key_place;
+use crate::places::{places, value_of};
+use col_core::{Frame, Leaf, Name, RowPlace, Schema};
 use join_model::{Query, Side, side_prefix};
 use std::alloc::{AllocError, AllocFailed, Global};
 
@@ -70,7 +70,7 @@ fn match_one(
     ensures within { OnOk result (length out.old.items ≤ max_pairs → length out.new.items ≤ max_pairs) }
 {
     for b in build {
-        if leaf_eq(&probe.key, &b.key) && !is_null_leaf(&probe.key) {
+        if probe.key.is_same(&b.key) && !probe.key.is_null() {
             if out.len() as u64 >= max_pairs {
                 return Err(ProbeError::TooLarge);
             }
@@ -110,7 +110,7 @@ fn rows_with_keys(
     c: usize,
 ) -> Result<Vec<Keyed>, AllocError>
     requires have { AllHave schema.now frames.now }
-    requires places { All (IsPlace frames.now) places.now }
+    requires places { All (IsRowPlace frames.now) places.now }
     requires column { c < length schema.now }
     ensures { IfOk result (λ v. v.items ≡ map (keyed_at frames.now c) places.now) }
 {
@@ -171,16 +171,16 @@ pub fn joined_pairs(
     matches(alloc, &probe_rows, &build_rows, query.plan.rows)
 }
 
-fn probe_places(alloc: Global, pairs: &[Pair]) -> Result<Vec<RowPlace>, AllocError>
-    ensures { IfOk result (λ v. v.items ≡ map (λ p. p.probe) pairs.now) }
+fn probe_places(alloc: Global, pairs: &[Pair]) -> Result<Vec<Option<RowPlace>>, AllocError>
+    ensures { IfOk result (λ v. v.items ≡ map (λ p. Some p.probe) pairs.now) }
 {
-    pairs.iter().map(|p| p.probe).collect(alloc)
+    pairs.iter().map(|p| Some(p.probe)).collect(alloc)
 }
 
-fn build_places(alloc: Global, pairs: &[Pair]) -> Result<Vec<RowPlace>, AllocError>
-    ensures { IfOk result (λ v. v.items ≡ map (λ p. p.build) pairs.now) }
+fn build_places(alloc: Global, pairs: &[Pair]) -> Result<Vec<Option<RowPlace>>, AllocError>
+    ensures { IfOk result (λ v. v.items ≡ map (λ p. Some p.build) pairs.now) }
 {
-    pairs.iter().map(|p| p.build).collect(alloc)
+    pairs.iter().map(|p| Some(p.build)).collect(alloc)
 }
 
 /// The pairs as rows of both sides: the probe columns as `probe.x`, and then the build columns as `build.x`.

@@ -3,17 +3,11 @@ ghost use Rattle.std.specs.Prelude.{◌≡◌, ◌<◌, ◌^◌, length, IfOk, m
 ghost use Rattle.std.specs.List.{All};
 ghost use Rattle.col_core.specs.Values.{value_at};
 ghost use Rattle.join_model.specs.Joined.{rows_of};
-ghost use Rattle.join_engine.specs.Places.{row_of, IsPlace, no_table};
+ghost use Rattle.col_core.specs.Places.{row_of, no_table};
+ghost use Rattle.join_engine.specs.Places.{IsRowPlace};
 
-use col_core::{Frame, Leaf};
+use col_core::{Frame, Leaf, RowPlace};
 use std::alloc::{AllocError, Global};
-
-/// A row of a side: the number of its frame, and its number there, both from 0.
-#[derive(Clone, Copy, PartialEq, Eq, Debug)]
-pub struct RowPlace {
-    pub frame: u32,
-    pub row: u32,
-}
 
 /// The places of all rows, frame by frame.
 #[tactic(auto, using(crate::proofs::Placed::placed))]
@@ -21,7 +15,7 @@ pub fn places(alloc: Global, frames: &[Frame]) -> Result<Vec<RowPlace>, AllocErr
     requires frames { length frames.now < 2 ^ 31 }
     requires rows { length (rows_of frames.now) < 2 ^ 31 }
     ensures rows { IfOk result (λ v. map (row_of frames.now) v.items ≡ rows_of frames.now) }
-    ensures inside { IfOk result (λ v. All (IsPlace frames.now) v.items) }
+    ensures inside { IfOk result (λ v. All (IsRowPlace frames.now) v.items) }
 {
     let mut places = Vec::new(alloc);
     for (f, frame) in frames.iter().enumerate() {
@@ -42,7 +36,7 @@ pub fn value_of(
     place: RowPlace,
     c: usize,
 ) -> Result<Leaf, AllocError>
-    requires place { IsPlace frames.now place }
+    requires place { IsRowPlace frames.now place }
     requires column { c < length (slice_index_or frames.now place.frame no_table).schema }
     ensures { IfOk result (λ v. v ≡ value_at (row_of frames.now place) c) }
 {

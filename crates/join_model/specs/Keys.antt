@@ -1,25 +1,14 @@
 -- When two values, and two keys, are equal, and when two keys join.
-use Rattle.std.specs.Prelude.{ℕ, Bool, true, false, ◌&&◌, ◌||◌, not, List, map}
+use Rattle.std.specs.Prelude.{ℕ, Bool, ◌&&◌, ◌||◌, not, List, map}
 use Rattle.std.specs.List.{list_any}
 use Rattle.std.specs.Option.{option_map_or}
-use Rattle.std.specs.Ordering.{int_eq}
-use Rattle.std.specs.Str.{bytes_eq}
 use Rattle.std.specs.Cmp.Lexicographic.{pointwise}
-use Rattle.std.specs.Bool.{beq}
 use Rattle.col_core.specs.declared.leaf.Leaf.{Leaf}
 use Rattle.col_core.specs.declared.leaf.Leaf.TheVariants as leaves
 use Rattle.col_core.specs.declared.schema.Field.{Field}
-use Rattle.col_core.specs.Values.{value_at, is_null}
+use Rattle.col_core.specs.Values.{value_at, is_null, leaf_eq}
 use Rattle.col_core.specs.Tables.{Row}
 use Rattle.col_core.specs.Schemas.{field_position}
-
--- two values are equal when they are the same; two nulls are equal
-abbrev pub leaf_eq : Leaf → Leaf → Bool
-leaf_eq leaves.Null leaves.Null = true
-leaf_eq (leaves.Bool a) (leaves.Bool b) = beq a b
-leaf_eq (leaves.Whole a) (leaves.Whole b) = int_eq a b
-leaf_eq (leaves.Bytes a) (leaves.Bytes b) = bytes_eq a b
-leaf_eq _ _ = false
 
 -- two tuples are equal when they are as long and equal place by place
 abbrev pub tuple_eq : List Leaf → List Leaf → Bool

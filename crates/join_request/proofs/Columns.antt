@@ -11,8 +11,8 @@ use Rattle.col_core.specs.Values.{value_at}
 use Rattle.col_core.specs.Tables.{Row, Column, column_of, header, values_of, rows_from}
 use Rattle.list_laws.proofs.Maps.{map_agree_on}
 use Rattle.col_core.proofs.Rows.{transposed}
-use Rattle.serde_json.specs.View.{items_view}
-use Rattle.serde_json.specs.declared.value.Value.{Value}
+use Rattle.serde_json.specs.Data.{Data}
+use Rattle.serde_json.specs.View.{items_of}
 use Rattle.join_request.specs.Json.{each}
 use Rattle.join_request.specs.Frames.{row_of_value, rows_with_columns}
 use Rattle.join_request.specs.Columns.{height_under}
@@ -45,6 +45,6 @@ frame_again : (schema : List Field) (rows : List Row) (columns : List Column) �
 frame_again [] rows columns wide e = refl
 frame_again (f ∷ fs) rows columns wide e = rw e (rows_again (length (f ∷ fs)) rows wide)
 
-pub frame_read : (schema : List Field) (vs : List Value) (rows : List Row) (columns : List Column) → each (row_of_value schema) (items_view vs) ≡ Some rows → values_of columns ≡ columns_to rows (length schema) → rows_from (height_under schema (length vs)) (values_of columns) ≡ rows_with_columns schema rows
-frame_read schema vs rows columns e values =
-    rw (← each_length (row_of_value schema) vs rows e) (frame_again schema rows columns (widths_read schema (items_view vs) rows e).0 values)
+pub frame_read : (schema : List Field) (ds : List Data) (rows : List Row) (columns : List Column) → each (row_of_value schema) (items_of ds) ≡ Some rows → values_of columns ≡ columns_to rows (length schema) → rows_from (height_under schema (length ds)) (values_of columns) ≡ rows_with_columns schema rows
+frame_read schema ds rows columns e values =
+    rw (← each_length (row_of_value schema) ds rows e) (frame_again schema rows columns (widths_read schema (items_of ds) rows e).0 values)

@@ -1,5 +1,5 @@
 -- Whole numbers in the range of a type.
-use Rattle.std.proofs.Common.{◌≡◌, ◌^◌, ℤ, pos, negsuc, ◌≤ℤ◌, ◌<ℤ◌, Some, FitsSigned, ap, arith}
+use Rattle.std.proofs.Common.{◌≡◌, ◌^◌, ℤ, pos, negsuc, ◌≤ℤ◌, ◌<ℤ◌, true, false, Option, Some, None, is_some, option_map, option_and_then, FitsSigned, refl, ap, arith}
 use Rattle.std.specs.Int.{FitsUnsigned, w8, w16, w32, w64, w128}
 use mir.Syntax.{Width}
 use mir.Val.{hbits, bits}
@@ -8,7 +8,11 @@ use Rattle.std.proofs.lemmas.Nat.{pow_pos}
 use Rattle.col_core.specs.declared.data_type.DataType.{DataType}
 use Rattle.col_core.specs.declared.data_type.DataType.TheVariants.{Boolean, Int8, Int16, Int32, Int64, UInt8, UInt16, UInt32, UInt64, Int128, Decimal, Date, Time, Datetime, Duration, String, Binary}
 use Rattle.col_core.specs.Values.{IsWholeOf}
-use Rattle.join_request.specs.Leaves.{range_of, signed_range, unsigned_range}
+use Rattle.col_core.specs.declared.leaf.Leaf.{Leaf}
+use Rattle.col_core.specs.declared.leaf.Leaf.TheVariants as leaves
+use Rattle.serde_json.specs.Data.{Data, null, boolean, number, string, array, object}
+use Rattle.serde_json.specs.Find.{as_null, as_number, as_integer}
+use Rattle.join_request.specs.Leaves.{range_of, signed_range, unsigned_range, integer_in, integer_of_value, whole_of_value, present_value, leaf_of_value}
 
 same_pair : (a b : ℤ × ℤ) → Some a ≡ Some b → (a.0 ≡ b.0) × (a.1 ≡ b.1)
 same_pair a b e = let same : a ≡ b = cc in (ap (λ (p : ℤ × ℤ). p.0) same, ap (λ (p : ℤ × ℤ). p.1) same)
@@ -44,3 +48,40 @@ fits_range (Duration u) z least greatest e lo hi = signed w64 z least greatest e
 fits_range Boolean z least greatest e lo hi = absurd (cc)
 fits_range String z least greatest e lo hi = absurd (cc)
 fits_range Binary z least greatest e lo hi = absurd (cc)
+
+-- a JSON integer of a type lies in its range
+pub integer_of_range : (t : DataType) (least greatest : ℤ) (d : Data) → range_of t ≡ Some (least, greatest) → integer_of_value t d ≡ integer_in (least, greatest) d
+integer_of_range t least greatest d e = rw e refl
+
+none_after : {A B : Type 0} (o : Option A) → option_and_then (λ (x : A). let none : Option B = None in none) o ≡ None
+none_after None = refl
+none_after (Some x) = refl
+
+pub no_integer : (t : DataType) (d : Data) → range_of t ≡ None → integer_of_value t d ≡ None
+no_integer t d e = rw e (none_after (option_and_then as_integer (as_number d)))
+
+pub ruleset integers = (fits_range, integer_of_range, no_integer)
+
+-- a value of a type of whole numbers is null or a whole number
+pub present_whole : (t : DataType) (least greatest : ℤ) (d : Data) → range_of t ≡ Some (least, greatest) → present_value t d ≡ option_map leaves.Whole (whole_of_value t d)
+present_whole Boolean least greatest d e = absurd (cc)
+present_whole String least greatest d e = absurd (cc)
+present_whole Binary least greatest d e = absurd (cc)
+present_whole _ least greatest d e = refl
+
+pub leaf_present : (t : DataType) (d : Data) → is_some (as_null d) ≡ false → leaf_of_value t d ≡ present_value t d
+leaf_present t null h = absurd (cc)
+leaf_present t (boolean b) h = refl
+leaf_present t (number n) h = refl
+leaf_present t (string s) h = refl
+leaf_present t (array ds) h = refl
+leaf_present t (object ms) h = refl
+
+pub ruleset wholes = (present_whole, leaf_present)
+
+-- each type but three is one of whole numbers
+pub has_range : (t : DataType) → ¬ (t ≡ Boolean) → ¬ (t ≡ String) → ¬ (t ≡ Binary) → is_some (range_of t) ≡ true
+has_range Boolean a b c = absurd (a refl)
+has_range String a b c = absurd (b refl)
+has_range Binary a b c = absurd (c refl)
+has_range _ a b c = refl

@@ -1,11 +1,12 @@
 -- Rows that are read, and the columns that are read of them.
 use Rattle.std.proofs.Common.{◌≡◌, ◌<◌, ◌+◌, ◌&&◌, ℕ, zero, suc, Bool, true, false, List, [], ◌∷◌, ◌++◌, length, drop, get_or, add-one, drop-cons, append_assoc, Option, Some, None, IsSome, option_map, option_and_then, slice_get, refl, sym, ap, ◌∙◌, subst, arith, true≢false, inl, inr}
 use Rattle.std.specs.List.{All}
+use Rattle.std.proofs.lemmas.List.{length-map, get_or-map}
 use Rattle.std.proofs.lemmas.List.Elements.{All-nil, All-cons}
 use Rattle.std.proofs.lemmas.Bool.Decides.{nat_tests}
 use Rattle.serde_json.specs.Data.{Data, null, boolean, number, string, array, object, Items, no_items, item}
 use Rattle.serde_json.specs.Find.{as_array, get_item}
-use Rattle.serde_json.specs.View.{view, items_view}
+use Rattle.serde_json.specs.View.{view, items_of, items_view}
 use Rattle.serde_json.specs.declared.value.Value.{Value}
 use Rattle.col_core.specs.declared.leaf.Leaf.{Leaf}
 use Rattle.col_core.specs.declared.schema.Field.{Field}
@@ -17,11 +18,34 @@ use Rattle.join_request.specs.Refused.{Refuses}
 use Rattle.join_request.specs.declared.error.RequestError.{RequestError}
 use Rattle.join_request.specs.Leaves.{leaf_of_value}
 use Rattle.join_request.specs.Frames.{row_of_items, row_of_value}
-use Rattle.join_request.specs.Columns.{leaf_in, item_count, is_wide, are_wide, grown}
+use Rattle.join_request.specs.Columns.{leaf_in, item_count, is_wide, are_wide, row_views, grown}
 
 pub item_count_of : (vs : List Value) → item_count (items_view vs) ≡ length vs
 item_count_of [] = refl
 item_count_of (v ∷ vs) = rw (item_count_of vs) (omega arith)
+
+-- a list, and the items at its places
+pub array_of : (d : Data) (ds : Items) → as_array d ≡ Some ds → d ≡ array ds
+array_of null ds e = absurd (cc)
+array_of (boolean b) ds e = absurd (cc)
+array_of (number n) ds e = absurd (cc)
+array_of (string s) ds e = absurd (cc)
+array_of (array x) ds e = cc
+array_of (object ms) ds e = absurd (cc)
+
+pub ruleset widths = (item_count_of, array_of)
+
+pub item_at : (vs : List Value) (i : ℕ) (v : Value) → slice_get vs i ≡ Some v → get_item i (items_view vs) ≡ Some (view v)
+item_at [] i v e = absurd (cc)
+item_at (x ∷ vs) zero v e = cc
+item_at (x ∷ vs) (suc i) v e = item_at vs i v e
+
+pub item_past : (vs : List Value) (i : ℕ) → slice_get vs i ≡ None → get_item i (items_view vs) ≡ None
+item_past [] i e = refl
+item_past (x ∷ vs) zero e = absurd (cc)
+item_past (x ∷ vs) (suc i) e = item_past vs i e
+
+pub ruleset items = (item_at, item_past)
 
 -- what a step that was followed by a second one gave, and the second one
 both : {A B C : Type 0} (o : Option A) (r : Option B) (f : A → B → C) (y : C) → option_and_then (λ x. option_map (f x) r) o ≡ Some y → (x : A) × (z : B) × (o ≡ Some x) × (r ≡ Some z) × (f x z ≡ y)
@@ -141,22 +165,28 @@ pub some_value : {A : Type 0} (o : Option A) → IsSome o → (x : A) × (o ≡ 
 some_value None h = absurd (cc)
 some_value (Some x) h = (x, refl)
 
-pub each_length : {A : Type 0} (f : Data → Option A) (vs : List Value) (xs : List A) → each f (items_view vs) ≡ Some xs → length xs ≡ length vs
+pub each_length : {A : Type 0} (f : Data → Option A) (ds : List Data) (xs : List A) → each f (items_of ds) ≡ Some xs → length xs ≡ length ds
 each_length f [] xs e = let same : [] ≡ xs = cc in ap length (sym same)
-each_length {A = A} f (v ∷ vs) xs e =
-    let b = both (f (view v)) (each f (items_view vs)) (λ (x : A) (ys : List A). x ∷ ys) xs e in
+each_length {A = A} f (d ∷ ds) xs e =
+    let b = both (f d) (each f (items_of ds)) (λ (x : A) (ys : List A). x ∷ ys) xs e in
     let long : length (b.0 ∷ b.1) ≡ length xs = ap length b.4 in
-    omega (arith, each_length f vs b.1 b.3, long)
+    omega (arith, each_length f ds b.1 b.3, long)
 
 pub refused_column : (schema : List Field) (ds : Items) (i : ℕ) (f : Field) → slice_get schema i ≡ Some f → (e : RequestError) → Refuses (each (leaf_in i f.dtype) ds) e → Refuses (each (row_of_value schema) ds) e
 refused_column schema ds i f g e (inl memory) = inl memory
 refused_column schema ds i f g e (inr shape) = inr (shape.0, none_if_column schema ds i f g shape.1)
 
 -- a column with the value of one more row
-pub one_more : (f : Data → Option Leaf) (vs : List Value) (i : ℕ) (v : Value) (column next : Growing) → i < length vs → v ≡ get_or vs i v → option_map (grown column) (f (view v)) ≡ Some next → (next.dtype ≡ column.dtype) × (option_map (λ rest. column.values ++ rest) (each f (items_view (drop i vs))) ≡ option_map (λ rest. next.values ++ rest) (each f (items_view (drop (i + 1) vs))))
-one_more f vs i v column next h is e = rw (add-one, drop-cons vs i v, ← is) (split (f (view v)) (each f (items_view (drop (suc i) vs))) e)
+pub one_more : (f : Data → Option Leaf) (ds : List Data) (i : ℕ) (d : Data) (column next : Growing) → i < length ds → d ≡ get_or ds i d → option_map (grown column) (f d) ≡ Some next → (next.dtype ≡ column.dtype) × (option_map (λ rest. column.values ++ rest) (each f (items_of (drop i ds))) ≡ option_map (λ rest. next.values ++ rest) (each f (items_of (drop (i + 1) ds))))
+one_more f ds i d column next h is e = rw (add-one, drop-cons ds i d, ← is) (split (f d) (each f (items_of (drop (suc i) ds))) e)
   where
     split : (o : Option Leaf) (r : Option (List Leaf)) → option_map (grown column) o ≡ Some next → (next.dtype ≡ column.dtype) × (option_map (λ rest. column.values ++ rest) (option_and_then (λ x. option_map (λ xs. x ∷ xs) r) o) ≡ option_map (λ rest. next.values ++ rest) r)
     split None r e = absurd (cc)
     split (Some x) None e = let same : grown column x ≡ next = cc in (ap (λ (g : Growing). g.dtype) (sym same), refl)
     split (Some x) (Some xs) e = let same : grown column x ≡ next = cc in (ap (λ (g : Growing). g.dtype) (sym same), subst (λ (g : Growing). Some (column.values ++ x ∷ xs) ≡ Some (g.values ++ xs)) same (rw append_assoc refl))
+
+-- the view of a row among the views of rows
+pub row_view_at : (rows : List (List Value)) (i : ℕ) (row : List Value) → i < length rows → row ≡ get_or rows i row → (i < length (row_views rows)) × (array (items_view row) ≡ get_or (row_views rows) i (array (items_view row)))
+row_view_at rows i row h is =
+    let seen : List Value → Data = λ items. array (items_view items) in
+    (rw (length-map rows seen) h, ap seen is ∙ sym (get_or-map seen rows i row (seen row) h))

@@ -1,7 +1,9 @@
 -- How rows are read to columns: words of the reader alone, on which no definition of a request stands.
-use Rattle.std.specs.Prelude.{ℕ, ◌+◌, ◌==◌, ◌&&◌, Bool, true, false, List, [], ◌∷◌, ◌++◌, Option, option_and_then}
+use Rattle.std.specs.Prelude.{ℕ, ◌+◌, ◌==◌, ◌&&◌, Bool, true, false, List, [], ◌∷◌, ◌++◌, map, Option, option_and_then}
 use Rattle.serde_json.specs.Data.{Data, array, Items, no_items, item}
 use Rattle.serde_json.specs.Find.{at}
+use Rattle.serde_json.specs.View.{items_of, items_view}
+use Rattle.serde_json.specs.declared.value.Value.{Value}
 use Rattle.col_core.specs.declared.data_type.DataType.{DataType}
 use Rattle.col_core.specs.declared.leaf.Leaf.{Leaf}
 use Rattle.col_core.specs.declared.schema.Field.{Field}
@@ -24,6 +26,13 @@ is_wide n d = false
 abbrev pub are_wide : ℕ → Items → Bool
 are_wide n no_items = true
 are_wide n (item d ds) = is_wide n d && are_wide n ds
+
+-- rows, each given by its items
+abbrev pub row_views : List (List Value) → List Data
+row_views rows = map (λ items. array (items_view items)) rows
+
+abbrev pub rows_view : List (List Value) → Items
+rows_view rows = items_of (row_views rows)
 
 -- a column with one more value
 abbrev pub grown : Growing → Leaf → Growing

@@ -38,11 +38,19 @@ range_of (Datetime u) = Some (signed_range 63)
 range_of (Duration u) = Some (signed_range 63)
 range_of dtype = None
 
+-- the number, where it lies from the least to the greatest
+abbrev pub within : ℤ × ℤ → ℤ → Option ℤ
+within range z = if int_le range.0 z && int_le z range.1 then Some z else None
+
 -- the number, where it is one of the type
 abbrev pub in_range_of : DataType → ℤ → Option ℤ
 in_range_of dtype z = do
   range ← range_of dtype
-  if int_le range.0 z && int_le z range.1 then Some z else None
+  within range z
+
+-- a JSON integer from the least to the greatest
+abbrev pub integer_in : ℤ × ℤ → Data → Option ℤ
+integer_in range d = as_number d >>= as_integer >>= within range
 
 -- a JSON integer of a type
 abbrev pub integer_of_value : DataType → Data → Option ℤ

@@ -13,7 +13,7 @@ loop-c-preserved c =
     let old = c.args.columns.now.items in
     let i = c.loop-c.c in
     c.in_ok-push.ensures.items
-    ∙ ap (λ (cs : List Column). cs ++ c.in_ok-gather_column.field-0 ∷ []) c.loop-c.invariant
-    ∙ ap (λ (x : Column). (old ++ map one (range_with_len 0 i)) ++ x ∷ []) c.in_ok-gather_column.ensures
+    ∙ ap (λ (cs : List Column). cs ++ c.in_ok-gathered_column.field-0 ∷ []) c.loop-c.invariant
+    ∙ ap (λ (x : Column). (old ++ map one (range_with_len 0 i)) ++ x ∷ []) c.in_ok-gathered_column.ensures
     ∙ append_assoc old (map one (range_with_len 0 i)) (one i ∷ [])
     ∙ ap (λ (cs : List Column). old ++ cs) (sym (map-range_with_len_more one 0 i i (zero-add i)))
