@@ -65,7 +65,7 @@ pub kept_step : {A : Type 0} (xs : List A) (mask : List Bool) (old so_far new : 
     → so_far ≡ old ++ filtered (take i xs) (take i mask) → x ≡ get_or xs i d → get_or mask i false ≡ true → new ≡ so_far ++ x ∷ [] → new ≡ old ++ filtered (take (i + 1) xs) (take (i + 1) mask)
 kept_step xs mask old so_far new i d x long within before here set pushed =
     let front = filtered (take i xs) (take i mask) in
-    pushed ∙ ap (λ all. all ++ x ∷ []) before ∙ append_assoc {xs = old} {ys = front} {zs = x ∷ []}
+    pushed ∙ ap (λ all. all ++ x ∷ []) before ∙ append_assoc old front (x ∷ [])
     ∙ ap (λ rest. old ++ rest) (ap (λ y. front ++ y ∷ []) here ∙ sym (filtered_more_yes xs mask i d within (omega arith) set))
 
 -- a step that drops an item

@@ -1,5 +1,4 @@
 pub mod Filtered
-pub mod Orders
 pub mod Places
 pub mod Words
 pub mod Best

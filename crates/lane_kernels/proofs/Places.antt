@@ -1,7 +1,7 @@
 -- Lists place by place.
-use Rattle.std.proofs.Common.{◌≡◌, ◌<◌, ◌+◌, ℕ, zero, suc, Bool, true, false, cond, List, [], ◌∷◌, ◌++◌, length, take, map, get_or, refl, sym, ap, ap₂, ◌∙◌, arith, add-one}
+use Rattle.std.proofs.Common.{◌≡◌, ◌<◌, ◌+◌, ℕ, zero, suc, Bool, true, false, cond, List, [], ◌∷◌, ◌++◌, length, take, map, replicate, get_or, Result, Ok, Err, OnOk, refl, sym, ap, ap₂, ◌∙◌, arith, add-one}
 use Rattle.std.specs.Simd.Lanes.{zip2, sel_l}
-use Rattle.std.proofs.lemmas.List.{take_more, map-append}
+use Rattle.std.proofs.lemmas.List.{take_more, map-append, get_or-replicate}
 
 zipped_more : {A B C : Type 0} (f : A → B → C) (xs : List A) (ys : List B) (i : ℕ) (d : A) (e : B) → i < length xs → i < length ys
     → zip2 f (take (suc i) xs) (take (suc i) ys) ≡ zip2 f (take i xs) (take i ys) ++ f (get_or xs i d) (get_or ys i e) ∷ []
@@ -57,3 +57,8 @@ pub sel_step_false : {A : Type 0} (mask : List Bool) (xs ys so_far new : List A)
 sel_step_false mask xs [] so_far new i first second within before unset pushed = absurd (omega arith)
 sel_step_false mask xs (y ∷ ys) so_far new i first second within before unset pushed =
     pushed y ∙ ap₂ (λ front x. front ++ x ∷ []) before (ap (λ b. cond b (get_or xs i y) (get_or (y ∷ ys) i y)) (sym unset)) ∙ sym (sel_more mask xs (y ∷ ys) i y within (omega arith) (omega arith))
+
+-- an item of copies of one
+pub pushed_repeated : {A R E : Type 0} (r : Result R E) (old new : List A) (n i : ℕ) (x : A) → i < n → OnOk r (new ≡ old ++ x ∷ []) → OnOk r ((d : A) → new ≡ old ++ get_or (replicate n x) i d ∷ [])
+pushed_repeated (Err e) old new n i x h done = done
+pushed_repeated (Ok a) old new n i x h done = λ d. done ∙ ap (λ y. old ++ y ∷ []) (sym (get_or-replicate n i x d h))

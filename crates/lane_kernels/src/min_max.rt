@@ -133,7 +133,13 @@ fn better<C: Order, T: Native>(best: Option<T>, value: T) -> T
         → IsBest C.holds T.value (so_far ++ value ∷ []) result }
 {
     match best {
-        Some(best) if !C::compare(value, best) => best,
-        _ => value,
+        Some(best) => {
+            if C::compare(value, best) {
+                value
+            } else {
+                best
+            }
+        }
+        None => value,
     }
 }
