@@ -128,4 +128,4 @@ only_null Holds (leaves.Bool b) k n = absurd k
 only_null Holds (leaves.Whole z) k n = absurd (n z refl)
 only_null Holds (leaves.Bytes b) k n = absurd k
 
-pub ruleset arrays = (truths_kept, numbers_kept, bytes_kept, found_at, null_at, leaves_push, null_truths, null_numbers, null_bytes)
+pub ruleset arrays = (found_at, null_at, leaves_push, null_truths, null_numbers, null_bytes)

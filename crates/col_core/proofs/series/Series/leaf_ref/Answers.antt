@@ -3,4 +3,4 @@ use Rattle.col_core.specs.Values.{Fits}
 use Rattle.col_core.proofs.series.Series.leaf_ref.Goals as goal
 
 pub returns-clause-fits : goal.returns-clause-fits
-returns-clause-fits c = subst (Fits c.args.self.now.dtype) (sym (c.leaf_ref.ensures.value ∙ c.chunk_at.ensures.value)) c.chunk_at.ensures.fits
+returns-clause-fits c = subst (Fits c.args.self.now.dtype) (sym (c.leaf_ref.ensures.value ∙ c.chunk_at-place.ensures.value)) c.chunk_at-place.ensures.fits
