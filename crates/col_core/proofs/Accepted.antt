@@ -1,10 +1,9 @@
 -- Chunks that no cause keeps from making a column.
-use Rattle.std.proofs.Common.{◌≡◌, ℕ, ◌+◌, ◌<◌, ◌^◌, Bool, true, false, not, List, [], ◌∷◌, ◌++◌, length, get_or, None, sym, subst, arith}
+use Rattle.std.proofs.Common.{◌≡◌, ◌+◌, ◌<◌, ◌^◌, Bool, true, false, not, List, [], ◌∷◌, length, get_or, None, sym, subst, arith}
 use Rattle.std.specs.List.{All, list_any}
 use Rattle.std.proofs.lemmas.List.{length-append, get_or_append_left, get_or-append-add}
 use Rattle.std.proofs.lemmas.List.Elements.{All-append, All-cons, All-nil, All-head, All-tail}
 use Rattle.col_core.specs.declared.chunk.Chunk.{Chunk}
-use Rattle.col_core.specs.declared.leaf.Leaf.{Leaf}
 use Rattle.col_core.specs.declared.data_type.DataType.{DataType}
 use Rattle.col_core.specs.declared.data_type.PhysicalType.{PhysicalType}
 use Rattle.col_core.specs.Physical.{IsKept, physical_of, physical_eq}

@@ -1,8 +1,8 @@
 -- Values at places.
-use Rattle.std.proofs.Common.{◌≡◌, ◌<◌, ◌∙◌, ℕ, zero, suc, List, [], ◌∷◌, ◌++◌, map, length, get_or, slice_get, Option, Some, None, refl, sym, ap, subst, arith}
+use Rattle.std.proofs.Common.{◌≡◌, ◌<◌, ◌∙◌, ℕ, zero, suc, List, [], ◌∷◌, map, length, get_or, slice_get, Option, Some, None, refl, sym, ap, subst, arith}
 use Rattle.std.specs.List.{All}
 use Rattle.std.proofs.lemmas.List.{length-map, get_or-map}
-use Rattle.std.proofs.lemmas.List.Elements.{All-push, All-get_or, All-map, All-weaker}
+use Rattle.std.proofs.lemmas.List.Elements.{All-get_or, All-map, All-weaker}
 use Rattle.col_core.specs.declared.leaf.Leaf.{Leaf}
 use Rattle.col_core.specs.declared.leaf.Leaf.TheVariants as leaves
 use Rattle.col_core.specs.declared.data_type.DataType.{DataType}
@@ -10,7 +10,7 @@ use Rattle.col_core.specs.declared.schema.Field.{Field}
 use Rattle.col_core.specs.declared.row_place.RowPlace.{RowPlace}
 use Rattle.col_core.specs.Values.{value_at, Fits}
 use Rattle.col_core.specs.Tables.{Row, Table, Column, column_of, header}
-use Rattle.col_core.specs.Places.{IsPlace, IsPlaceIn, IsWithin, placed_value, picked, type_at, no_table}
+use Rattle.col_core.specs.Places.{IsPlaceIn, IsWithin, placed_value, picked, type_at, no_table}
 use Rattle.col_core.specs.declared.chunk.Chunk.{Chunk}
 use Rattle.col_core.specs.Physical.{physical_of}
 use Rattle.col_core.specs.Tables.{IsOfKind, chunk_physical}

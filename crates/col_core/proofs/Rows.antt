@@ -86,8 +86,8 @@ under_taken schema columns n places under inside = record {
   headers = map-map header (taken places) columns ∙ under.headers;
   lengths = All-map (λ (c : Column). length c.values ≡ length places) (taken places) columns (All-weaker (λ (c : Column). length c.values ≡ n) _ (λ c h. length-map places (value_at c.values)) columns under.lengths);
   fits = All-map (λ (c : Column). All (Fits c.dtype) c.values) (taken places) columns (λ k d l.
-    let c = get_or columns k d in
-    fits_taken c.dtype c.values places (under.fits k d l) (subst (λ (m : ℕ). All (λ i. i < m) places) (sym (under.lengths k d l)) inside));
+      let c = get_or columns k d in
+      fits_taken c.dtype c.values places (under.fits k d l) (subst (λ (m : ℕ). All (λ i. i < m) places) (sym (under.lengths k d l)) inside));
 }
 
 -- each row of columns has a value for each field

@@ -242,33 +242,15 @@ impl Chunk {
             Chunk::Boolean(items) => {
                 items.extend_items(array_of!(source, Chunk::Boolean), start, len)
             }
-            Chunk::I8(items) => {
-                items.extend_items(array_of!(source, Chunk::I8), start, len)
-            }
-            Chunk::I16(items) => {
-                items.extend_items(array_of!(source, Chunk::I16), start, len)
-            }
-            Chunk::I32(items) => {
-                items.extend_items(array_of!(source, Chunk::I32), start, len)
-            }
-            Chunk::I64(items) => {
-                items.extend_items(array_of!(source, Chunk::I64), start, len)
-            }
-            Chunk::I128(items) => {
-                items.extend_items(array_of!(source, Chunk::I128), start, len)
-            }
-            Chunk::U8(items) => {
-                items.extend_items(array_of!(source, Chunk::U8), start, len)
-            }
-            Chunk::U16(items) => {
-                items.extend_items(array_of!(source, Chunk::U16), start, len)
-            }
-            Chunk::U32(items) => {
-                items.extend_items(array_of!(source, Chunk::U32), start, len)
-            }
-            Chunk::U64(items) => {
-                items.extend_items(array_of!(source, Chunk::U64), start, len)
-            }
+            Chunk::I8(items) => { items.extend_items(array_of!(source, Chunk::I8), start, len) }
+            Chunk::I16(items) => { items.extend_items(array_of!(source, Chunk::I16), start, len) }
+            Chunk::I32(items) => { items.extend_items(array_of!(source, Chunk::I32), start, len) }
+            Chunk::I64(items) => { items.extend_items(array_of!(source, Chunk::I64), start, len) }
+            Chunk::I128(items) => { items.extend_items(array_of!(source, Chunk::I128), start, len) }
+            Chunk::U8(items) => { items.extend_items(array_of!(source, Chunk::U8), start, len) }
+            Chunk::U16(items) => { items.extend_items(array_of!(source, Chunk::U16), start, len) }
+            Chunk::U32(items) => { items.extend_items(array_of!(source, Chunk::U32), start, len) }
+            Chunk::U64(items) => { items.extend_items(array_of!(source, Chunk::U64), start, len) }
             Chunk::Bytes(items) => {
                 items.extend_items(array_of!(source, Chunk::Bytes), start, len)
             }

@@ -4,7 +4,7 @@ use Rattle.std.proofs.lemmas.Result.{IfOk-weaker}
 use Rattle.std.proofs.lemmas.List.Elements.{All-map}
 use Rattle.col_core.specs.declared.leaf.Leaf.{Leaf}
 use Rattle.col_core.specs.declared.series.Series.{Series}
-use Rattle.col_core.specs.Tables.{Column, chunk_leaves}
+use Rattle.col_core.specs.Tables.{chunk_leaves}
 use Rattle.col_core.specs.Values.{Fits}
 use Rattle.col_core.specs.Places.{picked}
 use Rattle.col_core.proofs.Places.{gathered_are, gathered_fits}

@@ -1,4 +1,4 @@
-use Rattle.std.proofs.Common.{◌≡◌, ◌∙◌, List, take, drop, ap, sym, subst}
+use Rattle.std.proofs.Common.{◌≡◌, ◌∙◌, take, drop, ap, sym, subst}
 use Rattle.std.specs.List.{All}
 use Rattle.col_core.specs.declared.data_type.DataType.{DataType}
 use Rattle.col_core.specs.Tables.{Growing}

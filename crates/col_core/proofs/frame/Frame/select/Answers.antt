@@ -1,10 +1,9 @@
-use Rattle.std.proofs.Common.{◌≡◌, ◌∙◌, ◌++◌, [], ◌∷◌, ℕ, List, length, map, get_or, ap, sym, subst, rules}
+use Rattle.std.proofs.Common.{◌≡◌, ◌∙◌, ◌++◌, [], ◌∷◌, ℕ, List, map, get_or, ap, sym, rules}
 use Rattle.std.proofs.lemmas.List.{take_all, map-append}
-use Rattle.col_core.specs.declared.schema.Field.{Field}
 use Rattle.std.specs.List.{All}
 use Rattle.std.proofs.lemmas.List.Elements.{All-push}
 use Rattle.col_core.specs.Values.{Fits}
-use Rattle.col_core.specs.Tables.{Row, Column, AreColumnsOf, header, field_at, column_of, values_of, rows_from}
+use Rattle.col_core.specs.Tables.{Row, Column, header, field_at, column_of, values_of}
 use Rattle.col_core.proofs.Rows.{field_found, mapped_more, under_selected, rows_selected}
 use Rattle.col_core.proofs.frame.Frame.select.Goals as goal
 
