@@ -46,6 +46,18 @@ fn doubled(
     all.finish(alloc, Name::new(alloc, "n")?)
 }
 
+/// Whether a column is a run of another, twice.
+fn expect_twice(rt: &impl Abort, run: &Series, source: &Series, start: usize, len: usize) {
+    assert!(rt; run.len() == len.saturating_add(len));
+    for i in 0..len {
+        let place = start.saturating_add(i);
+        let again = len.saturating_add(i);
+        assert!(rt; i < run.len() && again < run.len() && place < source.len());
+        assert!(rt; run.leaf_ref(i).is_same(source.leaf_ref(place)));
+        assert!(rt; run.leaf_ref(again).is_same(source.leaf_ref(place)));
+    }
+}
+
 fn expect_run(
     rt: &impl Abort,
     alloc: Global,
@@ -55,11 +67,7 @@ fn expect_run(
 ) -> Result<(), AllocError> {
     let source = numbers(rt, alloc, n)?;
     let run = doubled(rt, alloc, &source, start, len)?;
-    assert!(rt; run.len() == len.saturating_add(len));
-    assert!(rt; start <= source.len() && len <= source.len() - start);
-    for i in 0..len {
-        assert!(rt; run.leaf_ref(i + len).is_same(source.leaf_ref(start + i)), "value {i} of {n}");
-    }
+    expect_twice(rt, &run, &source, start, len);
     Ok(())
 }
 
