@@ -1,7 +1,7 @@
 -- Items as two lists of one length: what is stored, and which items are present.
-use Rattle.std.proofs.Common.{◌≡◌, ℕ, zero, suc, ◌+◌, ◌<◌, ◌≤◌, Bool, true, false, not, List, [], ◌∷◌, ◌++◌, map, length, take, drop, replicate, get_or, Option, Some, None, Bor, MatchOption, Result, Ok, Err, OnOk, slice_get, option_and_then, refl, sym, ap, ap₂, subst, ◌∙◌, arith}
+use Rattle.std.proofs.Common.{◌≡◌, ℕ, zero, suc, ◌+◌, ◌-◌, ◌<◌, ◌≤◌, Bool, true, false, not, List, [], ◌∷◌, ◌++◌, map, length, take, drop, replicate, get_or, Option, Some, None, Bor, MatchOption, Result, Ok, Err, OnOk, slice_get, option_and_then, refl, sym, ap, ap₂, subst, ◌∙◌, arith}
 use Rattle.std.specs.List.{zip, count_by, All}
-use Rattle.std.proofs.lemmas.List.{take_more, append_assoc, length-drop, get_or-drop, map-append, take_all, take-append-le, length-replicate, get_or-replicate, length-map}
+use Rattle.std.proofs.lemmas.List.{take_more, append_assoc, length-drop, get_or-drop, map-append, take_all, take-append-le, length-replicate, get_or-replicate, length-map, length-take, length-append, drop-replicate, replicate-append-replicate}
 use Rattle.std.proofs.lemmas.List.Elements.{All-nil, All-cons, All-head, All-tail}
 use Rattle.std.proofs.lemmas.Option.{slice_get-get_or, get_or_from_slice_get}
 use Rattle.std.proofs.lemmas.Slice.Zip.{firsts-zip, seconds-zip, get_or-zip}
@@ -160,3 +160,58 @@ pub extended_more : {A : Type 0} (front old new source : List A) (start i len : 
 extended_more front old new source start i len h l so_far next =
     more_of front (drop start source) new i (omega (arith, length-drop start source))
     (λ d. next d ∙ ap₂ (λ some item. some ++ item ∷ []) so_far (sym (get_or-drop start source i d)))
+
+-- ---- a range of another list
+
+zip-append : {T : Type 0} (xs ys : List T) (ms ns : List Bool) → length ms ≡ length xs → zip (xs ++ ys) (ms ++ ns) ≡ zip xs ms ++ zip ys ns
+zip-append [] ys [] ns h = refl
+zip-append [] ys (m ∷ ms) ns h = absurd (omega arith)
+zip-append (x ∷ xs) ys [] ns h = absurd (omega arith)
+zip-append (x ∷ xs) ys (m ∷ ms) ns h = ap (λ rest. (x, m) ∷ rest) (zip-append xs ys ms ns (omega arith))
+
+zip-take : {T : Type 0} (n : ℕ) (xs : List T) (ms : List Bool) → length ms ≡ length xs → zip (take n xs) (take n ms) ≡ take n (zip xs ms)
+zip-take zero xs ms h = refl
+zip-take (suc n) [] [] h = refl
+zip-take (suc n) [] (m ∷ ms) h = absurd (omega arith)
+zip-take (suc n) (x ∷ xs) [] h = absurd (omega arith)
+zip-take (suc n) (x ∷ xs) (m ∷ ms) h = ap (λ rest. (x, m) ∷ rest) (zip-take n xs ms (omega arith))
+
+zip-drop : {T : Type 0} (n : ℕ) (xs : List T) (ms : List Bool) → length ms ≡ length xs → zip (drop n xs) (drop n ms) ≡ drop n (zip xs ms)
+zip-drop zero xs ms h = refl
+zip-drop (suc n) [] [] h = refl
+zip-drop (suc n) [] (m ∷ ms) h = absurd (omega arith)
+zip-drop (suc n) (x ∷ xs) [] h = absurd (omega arith)
+zip-drop (suc n) (x ∷ xs) (m ∷ ms) h = zip-drop n xs ms (omega arith)
+
+-- `n` items of another array from a place on
+pub items-range : {T : Type 0} (xs ys : List T) (ms ns : List Bool) (start n : ℕ) → length ms ≡ length xs → length ns ≡ length ys
+    → zip (xs ++ take n (drop start ys)) (ms ++ take n (drop start ns)) ≡ zip xs ms ++ take n (drop start (zip ys ns))
+items-range xs ys ms ns start n h k =
+    let rest : length (drop start ns) ≡ length (drop start ys) = omega (arith, length-drop start ns, length-drop start ys) in
+    zip-append xs (take n (drop start ys)) ms (take n (drop start ns)) h
+    ∙ ap (λ more. zip xs ms ++ more) (zip-take n (drop start ys) (drop start ns) rest ∙ ap (take n) (zip-drop start ys ns k))
+
+-- what was appended, and is cut off again
+pub cut_range : {T : Type 0} (xs more : List T) (n : ℕ) → n ≡ length xs → take n (xs ++ more) ≡ xs
+cut_range xs more n h = take-append-le n xs more (omega arith) ∙ take_all n xs (omega arith)
+
+pub length-range : {T : Type 0} (xs : List T) (start n : ℕ) → start + n ≤ length xs → length (take n (drop start xs)) ≡ n
+length-range xs start n h = omega (arith, length-take n (drop start xs), length-drop start xs)
+
+pub ruleset extends = (length-items, items-range, cut_range, length-range, length-append)
+
+-- more that are present
+pub replicate-add : (a b : ℕ) (x : Bool) → replicate (a + b) x ≡ replicate a x ++ replicate b x
+replicate-add a b x = sym (replicate-append-replicate a b x)
+
+pub range-replicate : (n start k : ℕ) (x : Bool) → start + k ≤ n → take k (drop start (replicate n x)) ≡ replicate k x
+range-replicate n start k x h = ap (take k) (drop-replicate start n x) ∙ take-replicate x (n - start) k (omega arith)
+
+pub all_kept : (n k : ℕ) (bits : List Bool) → length bits ≡ n → take (n + k) bits ++ replicate (n + k - length bits) true ≡ bits ++ replicate k true
+all_kept n k bits h =
+    let more : n + k - length bits ≡ k = omega arith in
+    ap₂ (λ front c. front ++ replicate c true) (take_all (n + k) bits (omega arith)) more
+
+pub ruleset more_present = (replicate-add, range-replicate, all_kept, length-replicate)
+
+pub ruleset more_bits = (extended_more, cut_range)

@@ -3,3 +3,4 @@ pub mod Writes
 pub mod Words
 pub mod Items
 pub mod Offsets
+pub mod Ranges

@@ -75,7 +75,7 @@ item_in bytes more offsets k h l (inr after) =
     ap (λ i. get_or (byte_items bytes offsets ++ more ∷ []) i []) at_end ∙ get_or-append_seam (byte_items bytes offsets) more [] []
     ∙ sym (item_after bytes more offsets k h (omega arith))
 
-byte_items_more : (bytes more offsets : List ℕ) → AreOffsets bytes offsets → byte_items (bytes ++ more) (offsets ++ length (bytes ++ more) ∷ []) ≡ byte_items bytes offsets ++ more ∷ []
+pub byte_items_more : (bytes more offsets : List ℕ) → AreOffsets bytes offsets → byte_items (bytes ++ more) (offsets ++ length (bytes ++ more) ∷ []) ≡ byte_items bytes offsets ++ more ∷ []
 byte_items_more bytes more offsets h =
     let e = length (bytes ++ more) in
     let some = h.some in
@@ -104,7 +104,7 @@ offset_within bytes more offsets i j h le l =
           ]
     ]
 
-offsets_more : (bytes more offsets : List ℕ) → AreOffsets bytes offsets → AreOffsets (bytes ++ more) (offsets ++ length (bytes ++ more) ∷ [])
+pub offsets_more : (bytes more offsets : List ℕ) → AreOffsets bytes offsets → AreOffsets (bytes ++ more) (offsets ++ length (bytes ++ more) ∷ [])
 offsets_more bytes more offsets h =
     let e = length (bytes ++ more) in
     let some = h.some in

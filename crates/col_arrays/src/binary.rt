@@ -87,6 +87,7 @@ impl BinaryArray {
     }
 
     /// The number of items, nulls among them.
+    #[inline(always)]
     #[tactic(auto, using(crate::proofs::Items::views))]
     pub fn len(&self) -> usize
         ensures len { result ≡ length self.now }
@@ -104,6 +105,7 @@ impl BinaryArray {
     }
 
     /// The bytes that are stored at a place, under a null too.
+    #[inline(always)]
     #[tactic(auto, using(crate::proofs::Items::finds))]
     pub fn value(&self, i: usize) -> &[u8]
         requires { i < length self.now }
@@ -113,6 +115,7 @@ impl BinaryArray {
     }
 
     /// The bytes at a place, or `None` for a null.
+    #[inline(always)]
     #[tactic(auto, using(crate::proofs::Items::finds))]
     pub fn get(&self, i: usize) -> Option<&[u8]>
         requires { i < length self.now }
@@ -137,6 +140,7 @@ impl BinaryArray {
     }
 
     /// Appends an item. After `Err` the array is as it was.
+    #[inline(always)]
     #[tactic(auto, using(crate::proofs::Items::pushes))]
     pub fn push(&mut self, value: &[u8], present: bool) -> Result<(), AllocError>
         ensures ok { OnOk result (self.new ≡ self.old ++ (value.now, present) ∷ []) }
@@ -152,6 +156,7 @@ impl BinaryArray {
     }
 
     /// Appends a null, under which no bytes are stored. After `Err` the array is as it was.
+    #[inline(always)]
     pub fn push_null(&mut self) -> Result<(), AllocError>
         ensures ok { OnOk result (self.new ≡ self.old ++ ([], false) ∷ []) }
         ensures err { OnErr result (self.new ≡ self.old) }
@@ -160,6 +165,7 @@ impl BinaryArray {
     }
 
     /// Appends the item at a place of another array. After `Err` the array is as it was.
+    #[inline(always)]
     #[tactic(auto, using(crate::proofs::Items::finds))]
     pub fn push_from(&mut self, source: &Self, i: usize) -> Result<(), AllocError>
         requires { i < length source.now }
@@ -169,16 +175,35 @@ impl BinaryArray {
         self.push(source.stored.get(i), source.validity.get(i))
     }
 
+    /// Appends `len` items of another array from a place on. After `Err` the array is as it was.
+    #[tactic(auto, using(crate::proofs::Items::extends))]
+    pub fn extend_from_range(
+        &mut self,
+        source: &Self,
+        start: usize,
+        len: usize,
+    ) -> Result<(), AllocError>
+        requires { start + len ≤ length source.now }
+        ensures ok { OnOk result (self.new ≡ self.old ++ take len (drop start source.now)) }
+        ensures err { OnErr result (self.new ≡ self.old) }
+    {
+        let before = self.stored.len();
+        let alloc = self.stored.allocator();
+        self.validity
+            .extend_from_range(alloc, &source.validity, start, len)?;
+        let extended = self.stored.extend_from_range(&source.stored, start, len);
+        if extended.is_err() {
+            self.validity.truncate(before);
+        }
+        extended
+    }
+
     /// These items, and after them `len` items of another array from a place on.
     pub fn extended(mut self, source: &Self, start: usize, len: usize) -> Result<Self, AllocError>
         requires { start + len ≤ length source.now }
         ensures { IfOk result (λ all. all ≡ self ++ take len (drop start source.now)) }
     {
-        let _within = source.len();
-        self.stored.reserve(len)?;
-        for i in 0..len {
-            self.push_from(source, start + i)?;
-        }
+        self.extend_from_range(source, start, len)?;
         Ok(self)
     }
 }

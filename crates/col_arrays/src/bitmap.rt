@@ -1,5 +1,5 @@
 //! Bits that are owned.
-ghost use Rattle.std.specs.Prelude.{◌≡◌, ◌<◌, ◌≤◌, ◌-◌, ◌*◌, [], ◌∷◌, ◌++◌, Bool, Some, false, true, length, map, take, not, replicate, slice_get, slice_set, slice_index_or, OnOk, OnErr, IfOk};
+ghost use Rattle.std.specs.Prelude.{◌≡◌, ◌<◌, ◌≤◌, ◌-◌, ◌+◌, ◌*◌, [], ◌∷◌, ◌++◌, Bool, Some, false, true, length, map, take, drop, not, replicate, slice_get, slice_set, slice_index_or, OnOk, OnErr, IfOk};
 ghost use Rattle.std.specs.List.{All, count_by};
 ghost use Rattle.col_arrays.specs.Bits.{bits_of};
 
@@ -49,6 +49,7 @@ impl Bitmap {
     }
 
     /// The number of bits.
+    #[inline(always)]
     #[tactic(auto, using(crate::proofs::BitLists::reads))]
     pub fn len(&self) -> usize
         ensures { result ≡ length self.now }
@@ -57,6 +58,7 @@ impl Bitmap {
     }
 
     /// The bit at a place.
+    #[inline(always)]
     #[tactic(auto, using(crate::proofs::BitLists::reads))]
     pub fn get(&self, i: usize) -> bool
         requires { i < length self.now }
@@ -92,6 +94,7 @@ impl Bitmap {
     }
 
     /// Appends a bit. After `Err` the bits are as they were.
+    #[inline(always)]
     pub(crate) fn push(&mut self, bit: bool) -> Result<(), AllocError>
         ensures ok { OnOk result (self.new ≡ self.old ++ bit ∷ []) }
         ensures err { OnErr result (self.new ≡ self.old) }
@@ -145,6 +148,31 @@ impl Bitmap {
             let pushed = self.push(bit);
             if pushed.is_err() {
                 self.truncate(len);
+                return pushed;
+            }
+        }
+        Ok(())
+    }
+
+    /// Appends `len` bits of another bitmap from a place on. After `Err` the bits are as they were.
+    #[tactic(auto, using(crate::proofs::Items::more_bits))]
+    pub(crate) fn extend_from_range(
+        &mut self,
+        source: &Self,
+        start: usize,
+        len: usize,
+    ) -> Result<(), AllocError>
+        requires { start + len ≤ length source.now }
+        ensures ok { OnOk result (self.new ≡ self.old ++ take len (drop start source.now)) }
+        ensures err { OnErr result (self.new ≡ self.old) }
+    {
+        let before = self.len();
+        self.reserve(len)?;
+        let _bits = source.len();
+        for i in 0..len {
+            let pushed = self.push(source.get(start + i));
+            if pushed.is_err() {
+                self.truncate(before);
                 return pushed;
             }
         }

@@ -5,6 +5,7 @@ ghost use Rattle.col_arrays.specs.Bits.{bit_at};
 use std::alloc::AllocError;
 
 /// Bit `i` of the bytes.
+#[inline(always)]
 pub(crate) fn read_bit(bytes: &[u8], i: usize) -> bool
     requires { i < 8 * length bytes.now }
     ensures { result ≡ bit_at bytes.now i }
@@ -13,6 +14,7 @@ pub(crate) fn read_bit(bytes: &[u8], i: usize) -> bool
 }
 
 /// Writes bit `i`, and no other.
+#[inline(always)]
 pub(crate) fn write_bit(bytes: &mut [u8], i: usize, bit: bool)
     requires { i < 8 * length bytes.old }
     ensures written { bit_at bytes.new i ≡ bit }
@@ -27,6 +29,7 @@ pub(crate) fn write_bit(bytes: &mut [u8], i: usize, bit: bool)
 }
 
 /// Makes sure that bit `i` has its place, and changes no bit before it.
+#[inline(always)]
 #[tactic(auto, using(crate::proofs::BitLists::bit_before))]
 pub(crate) fn make_place(bytes: &mut Vec<u8>, i: usize) -> Result<(), AllocError>
     requires { i ≤ 8 * length bytes.old.items }

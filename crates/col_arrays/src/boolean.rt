@@ -74,6 +74,7 @@ impl BooleanArray {
     }
 
     /// The number of items, nulls among them.
+    #[inline(always)]
     #[tactic(auto, using(crate::proofs::Items::views))]
     pub fn len(&self) -> usize
         ensures { result ≡ length self.now }
@@ -98,6 +99,7 @@ impl BooleanArray {
     }
 
     /// The truth value at a place, or `None` for a null.
+    #[inline(always)]
     #[tactic(auto, using(crate::proofs::Items::finds))]
     pub fn get(&self, i: usize) -> Option<bool>
         requires { i < length self.now }
@@ -122,6 +124,7 @@ impl BooleanArray {
     }
 
     /// Appends an item. After `Err` the array is as it was.
+    #[inline(always)]
     #[tactic(auto, using(crate::proofs::Items::pushes))]
     pub fn push(&mut self, value: bool, present: bool) -> Result<(), AllocError>
         ensures ok { OnOk result (self.new ≡ self.old ++ (value, present) ∷ []) }
@@ -137,6 +140,7 @@ impl BooleanArray {
     }
 
     /// Appends a null, under which false is stored. After `Err` the array is as it was.
+    #[inline(always)]
     pub fn push_null(&mut self) -> Result<(), AllocError>
         ensures ok { OnOk result (self.new ≡ self.old ++ (false, false) ∷ []) }
         ensures err { OnErr result (self.new ≡ self.old) }
@@ -145,6 +149,7 @@ impl BooleanArray {
     }
 
     /// Appends the item at a place of another array. After `Err` the array is as it was.
+    #[inline(always)]
     #[tactic(auto, using(crate::proofs::Items::finds))]
     pub fn push_from(&mut self, source: &Self, i: usize) -> Result<(), AllocError>
         requires { i < length source.now }
@@ -154,16 +159,36 @@ impl BooleanArray {
         self.push(source.stored.get(i), source.validity.get(i))
     }
 
+    /// Appends `len` items of another array from a place on. After `Err` the array is as it was.
+    #[tactic(auto, using(crate::proofs::Items::extends))]
+    pub fn extend_from_range(
+        &mut self,
+        source: &Self,
+        start: usize,
+        len: usize,
+    ) -> Result<(), AllocError>
+        requires { start + len ≤ length source.now }
+        ensures ok { OnOk result (self.new ≡ self.old ++ take len (drop start source.now)) }
+        ensures err { OnErr result (self.new ≡ self.old) }
+    {
+        let before = self.stored.len();
+        let alloc = self.stored.allocator();
+        self.stored.extend_from_range(&source.stored, start, len)?;
+        let extended = self
+            .validity
+            .extend_from_range(alloc, &source.validity, start, len);
+        if extended.is_err() {
+            self.stored.truncate(before);
+        }
+        extended
+    }
+
     /// These items, and after them `len` items of another array from a place on.
     pub fn extended(mut self, source: &Self, start: usize, len: usize) -> Result<Self, AllocError>
         requires { start + len ≤ length source.now }
         ensures { IfOk result (λ all. all ≡ self ++ take len (drop start source.now)) }
     {
-        let _within = source.len();
-        self.stored.reserve(len)?;
-        for i in 0..len {
-            self.push_from(source, start + i)?;
-        }
+        self.extend_from_range(source, start, len)?;
         Ok(self)
     }
 }

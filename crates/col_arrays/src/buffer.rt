@@ -1,5 +1,5 @@
 //! Texts or bytes in one buffer.
-ghost use Rattle.std.specs.Prelude.{◌≡◌, ◌<◌, ◌≤◌, ◌+◌, [], ◌∷◌, ◌++◌, Some, length, map, OnOk, OnErr, IfOk, slice_get, vec_len, vec_capacity};
+ghost use Rattle.std.specs.Prelude.{◌≡◌, ◌<◌, ◌≤◌, ◌+◌, ◌-◌, ◌^◌, [], ◌∷◌, ◌++◌, Some, length, map, take, drop, OnOk, OnErr, IfOk, slice_get, vec_len, vec_capacity};
 ghost use Rattle.std.specs.List.{All};
 ghost use Rattle.col_arrays.specs.Buffer.{byte_items, opened, AreOffsets, AreBytes};
 
@@ -48,6 +48,7 @@ impl BinaryBuffer {
     }
 
     /// The number of items.
+    #[inline(always)]
     #[tactic(auto, using(crate::proofs::Offsets::sizes))]
     pub(crate) fn len(&self) -> usize
         ensures len { result ≡ length self.now }
@@ -58,6 +59,7 @@ impl BinaryBuffer {
     }
 
     /// The item at a place.
+    #[inline(always)]
     pub(crate) fn get(&self, i: usize) -> &[u8]
         requires { i < length self.now }
         ensures { slice_get self.now i ≡ Some result.now }
@@ -80,6 +82,7 @@ impl BinaryBuffer {
     }
 
     /// Appends an item. After `Err` the items are as they were.
+    #[inline(always)]
     #[tactic(auto, using(crate::proofs::Offsets::pushes))]
     pub(crate) fn push(&mut self, item: &[u8]) -> Result<(), AllocError>
         ensures ok { OnOk result (self.new ≡ self.old ++ item.now ∷ []) }
@@ -88,6 +91,32 @@ impl BinaryBuffer {
         self.offsets.reserve(2)?;
         self.bytes.extend_from_slice(item)?;
         end_item(&mut self.offsets, self.bytes.len() as u64);
+        Ok(())
+    }
+
+    /// Appends `len` items of another buffer from a place on: one range of bytes, with its
+    /// offsets moved. After `Err` the items are as they were.
+    pub(crate) fn extend_from_range(
+        &mut self,
+        source: &Self,
+        start: usize,
+        len: usize,
+    ) -> Result<(), AllocError>
+        requires { start + len ≤ length source.now }
+        ensures ok { OnOk result (self.new ≡ self.old ++ take len (drop start source.now)) }
+        ensures err { OnErr result (self.new ≡ self.old) }
+    {
+        if len == 0 {
+            return Ok(());
+        }
+        let first = source.offsets[start];
+        let last = source.offsets[start + len];
+        self.offsets.reserve(len.saturating_add(1))?;
+        let base = self.bytes.len() as u64;
+        let bytes = &source.bytes[first as usize..last as usize];
+        self.bytes.extend_from_slice(bytes)?;
+        let ends = &source.offsets[start + 1..start + len + 1];
+        end_items(&mut self.offsets, ends, first, base);
         Ok(())
     }
 
@@ -111,13 +140,38 @@ fn know_bytes(bytes: &[u8])
     ensures { AreBytes bytes.now }
 {}
 
-/// Ends an item at an offset, for which there is room.
-fn end_item(offsets: &mut Vec<u64>, end: u64)
-    requires room { vec_len offsets.old + 2 ≤ vec_capacity offsets.old }
-    ensures { offsets.new.items ≡ opened offsets.old.items ++ end ∷ [] }
+/// Makes the first offset stand, for which there is room.
+#[inline(always)]
+fn open_offsets(offsets: &mut Vec<u64>)
+    requires room { vec_len offsets.old < vec_capacity offsets.old }
+    ensures items { offsets.new.items ≡ opened offsets.old.items }
+    ensures len { vec_len offsets.new ≤ vec_len offsets.old + 1 }
+    ensures capacity { vec_capacity offsets.new ≡ vec_capacity offsets.old }
 {
     if offsets.is_empty() {
         offsets.push_reserved(0);
     }
+}
+
+/// Ends items at offsets that are moved from `first` to `base`, for which there is room.
+fn end_items(offsets: &mut Vec<u64>, ends: &[u64], first: u64, base: u64)
+    requires room { vec_len offsets.old + length ends.now + 1 ≤ vec_capacity offsets.old }
+    requires above { All (λ end. first ≤ end) ends.now }
+    requires small { All (λ end. base + (end - first) < 2 ^ 64) ends.now }
+    ensures { offsets.new.items ≡ opened offsets.old.items ++ map (λ end. base + (end - first)) ends.now }
+{
+    open_offsets(offsets);
+    for end in ends {
+        offsets.push_reserved(base + (*end - first));
+    }
+}
+
+/// Ends an item at an offset, for which there is room.
+#[inline(always)]
+fn end_item(offsets: &mut Vec<u64>, end: u64)
+    requires room { vec_len offsets.old + 2 ≤ vec_capacity offsets.old }
+    ensures { offsets.new.items ≡ opened offsets.old.items ++ end ∷ [] }
+{
+    open_offsets(offsets);
     offsets.push_reserved(end);
 }

@@ -1,5 +1,5 @@
 //! Arrays of numbers, of which some may be null.
-ghost use Rattle.std.specs.Prelude.{◌≡◌, ◌<◌, ◌≤◌, ◌+◌, Bool, [], ◌∷◌, ◌++◌, Some, true, false, length, map, take, drop, OnOk, OnErr, IfOk, IfSome, MatchOption, option_and_then, slice_index_or, slice_get};
+ghost use Rattle.std.specs.Prelude.{◌≡◌, ◌<◌, ◌≤◌, ◌+◌, Bool, [], ◌∷◌, ◌++◌, Some, true, false, length, map, take, drop, OnOk, OnErr, IfOk, IfSome, MatchOption, option_and_then, slice_index_or, slice_get, vec_len, vec_capacity};
 ghost use Rattle.std.specs.List.{All};
 ghost use Rattle.col_arrays.specs.Items.{item_of, stored, presence, all_present, nulls, with_validity, AreNumbers};
 
@@ -81,6 +81,7 @@ impl<T: Native> PrimitiveArray<T> {
     }
 
     /// The number of items, nulls among them.
+    #[inline(always)]
     #[tactic(auto, using(crate::proofs::Items::views))]
     pub fn len(&self) -> usize
         ensures len { result ≡ length self.now }
@@ -98,6 +99,7 @@ impl<T: Native> PrimitiveArray<T> {
     }
 
     /// What is stored, under nulls too.
+    #[inline(always)]
     #[tactic(auto, using(crate::proofs::Items::views))]
     pub fn values(&self) -> &[T]
         ensures values { result.now ≡ stored self.now }
@@ -107,6 +109,7 @@ impl<T: Native> PrimitiveArray<T> {
     }
 
     /// The value at a place, or `None` for a null.
+    #[inline(always)]
     #[tactic(auto, using(crate::proofs::Items::finds))]
     pub fn get(&self, i: usize) -> Option<T>
         requires { i < length self.now }
@@ -131,6 +134,7 @@ impl<T: Native> PrimitiveArray<T> {
     }
 
     /// Appends an item. After `Err` the array is as it was.
+    #[inline(always)]
     #[tactic(auto, using(crate::proofs::Items::pushes))]
     pub fn push(&mut self, value: T, present: bool) -> Result<(), AllocError>
         ensures ok { OnOk result (self.new ≡ self.old ++ (value, present) ∷ []) }
@@ -145,6 +149,7 @@ impl<T: Native> PrimitiveArray<T> {
     }
 
     /// Appends the item at a place of another array. After `Err` the array is as it was.
+    #[inline(always)]
     #[tactic(auto, using(crate::proofs::Items::finds))]
     pub fn push_from(&mut self, source: &Self, i: usize) -> Result<(), AllocError>
         requires { i < length source.now }
@@ -154,20 +159,37 @@ impl<T: Native> PrimitiveArray<T> {
         self.push(source.stored[i], source.validity.get(i))
     }
 
+    /// Appends `len` items of another array from a place on. After `Err` the array is as it was.
+    #[tactic(auto, using(crate::proofs::Items::extends))]
+    pub fn extend_from_range(
+        &mut self,
+        source: &Self,
+        start: usize,
+        len: usize,
+    ) -> Result<(), AllocError>
+        requires { start + len ≤ length source.now }
+        ensures ok { OnOk result (self.new ≡ self.old ++ take len (drop start source.now)) }
+        ensures err { OnErr result (self.new ≡ self.old) }
+    {
+        let alloc = *self.stored.allocator();
+        self.stored.reserve(len)?;
+        self.validity
+            .extend_from_range(alloc, &source.validity, start, len)?;
+        extend_reserved(&mut self.stored, &source.stored[start..start + len]);
+        Ok(())
+    }
+
     /// These items, and after them `len` items of another array from a place on.
     pub fn extended(mut self, source: &Self, start: usize, len: usize) -> Result<Self, AllocError>
         requires { start + len ≤ length source.now }
         ensures { IfOk result (λ all. all ≡ self ++ take len (drop start source.now)) }
     {
-        let _within = source.len();
-        self.stored.reserve(len)?;
-        for i in 0..len {
-            self.push_from(source, start + i)?;
-        }
+        self.extend_from_range(source, start, len)?;
         Ok(self)
     }
 
     /// Appends a null, under which 0 is stored. After `Err` the array is as it was.
+    #[inline(always)]
     pub fn push_null(&mut self) -> Result<(), AllocError>
         ensures ok { OnOk result (self.new ≡ self.old ++ (T.zero, false) ∷ []) }
         ensures err { OnErr result (self.new ≡ self.old) }
@@ -184,6 +206,15 @@ fn know_numbers<T: Native>(values: &[T])
     for value in values {
         let _number = value.to_whole();
     }
+}
+
+/// Appends values, for which there is room.
+#[inline(always)]
+fn extend_reserved<T: Copy>(values: &mut Vec<T>, more: &[T])
+    requires { vec_len values.old + length more.now ≤ vec_capacity values.old }
+    ensures { values.new.items ≡ values.old.items ++ more.now }
+{
+    let _there_is_room = values.extend_from_slice(more);
 }
 
 /// The values at indexes, in the order of the indexes.

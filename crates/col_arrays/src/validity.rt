@@ -1,5 +1,5 @@
 //! Which items of an array are present.
-ghost use Rattle.std.specs.Prelude.{◌≡◌, ◌<◌, [], ◌∷◌, ◌++◌, Some, true, false, length, map, take, not, replicate, slice_get, slice_index_or, MatchOption, IfSome, OnOk, OnErr, IfOk};
+ghost use Rattle.std.specs.Prelude.{◌≡◌, ◌<◌, ◌≤◌, ◌+◌, [], ◌∷◌, ◌++◌, Some, true, false, length, map, take, drop, not, replicate, slice_get, slice_index_or, MatchOption, IfSome, OnOk, OnErr, IfOk};
 ghost use Rattle.std.specs.List.{All, count_by};
 ghost use Rattle.col_arrays.specs.Items.{validity_of};
 
@@ -45,6 +45,7 @@ impl Validity {
     }
 
     /// Whether the item at a place is present.
+    #[inline(always)]
     pub(crate) fn get(&self, i: usize) -> bool
         requires { i < length self.now }
         ensures { result ≡ slice_index_or self.now i false }
@@ -66,6 +67,7 @@ impl Validity {
     }
 
     /// Appends whether one more item is present. After `Err` nothing has changed.
+    #[inline(always)]
     pub(crate) fn push(&mut self, alloc: Global, present: bool) -> Result<(), AllocError>
         ensures ok { OnOk result (self.new ≡ self.old ++ present ∷ []) }
         ensures err { OnErr result (self.new ≡ self.old) }
@@ -81,6 +83,65 @@ impl Validity {
         }
         self.len = len;
         Ok(())
+    }
+
+    /// Appends `n` items that are present. After `Err` nothing has changed.
+    #[tactic(auto, using(crate::proofs::Items::more_present))]
+    fn extend_present(&mut self, n: usize) -> Result<(), AllocError>
+        ensures ok { OnOk result (self.new ≡ self.old ++ replicate n true) }
+        ensures err { OnErr result (self.new ≡ self.old) }
+    {
+        let len = self.len.checked_add(n).ok_or(AllocError)?;
+        if let Some(bits) = &mut self.bits {
+            bits.resize(len, true)?;
+        }
+        self.len = len;
+        Ok(())
+    }
+
+    /// Appends the validity that some bits say. After `Err` nothing has changed.
+    fn extend_from_bits(
+        &mut self,
+        alloc: Global,
+        more: &Bitmap,
+        start: usize,
+        n: usize,
+    ) -> Result<(), AllocError>
+        requires { start + n ≤ length more.now }
+        ensures ok { OnOk result (self.new ≡ self.old ++ take n (drop start more.now)) }
+        ensures err { OnErr result (self.new ≡ self.old) }
+    {
+        let len = self.len.checked_add(n).ok_or(AllocError)?;
+        if let Some(bits) = &mut self.bits {
+            bits.extend_from_range(more, start, n)?;
+        } else {
+            let mut bits = Bitmap::new(alloc);
+            bits.resize(self.len, true)?;
+            bits.extend_from_range(more, start, n)?;
+            self.bits = Some(bits);
+        }
+        self.len = len;
+        Ok(())
+    }
+
+    /// Appends the validity of `len` items of another list from a place on. After `Err` nothing
+    /// has changed.
+    #[tactic(auto, using(crate::proofs::Items::more_present))]
+    pub(crate) fn extend_from_range(
+        &mut self,
+        alloc: Global,
+        source: &Self,
+        start: usize,
+        len: usize,
+    ) -> Result<(), AllocError>
+        requires { start + len ≤ length source.now }
+        ensures ok { OnOk result (self.new ≡ self.old ++ take len (drop start source.now)) }
+        ensures err { OnErr result (self.new ≡ self.old) }
+    {
+        match &source.bits {
+            Some(bits) => self.extend_from_bits(alloc, bits, start, len),
+            None => self.extend_present(len),
+        }
     }
 
     /// Keeps the validity of the first `n` items.

@@ -5,3 +5,5 @@
 mod arrays;
 #[cfg(test)]
 mod bits;
+#[cfg(test)]
+mod ranges;

@@ -1,8 +1,11 @@
+pub mod Bytes
+pub mod Ranges
 pub mod ItemLeaves
 pub mod Texts
 pub mod Leaves
+pub mod Lent
 pub mod Rows
-pub mod Pointwise
+pub mod Places
 pub mod Equalities
 pub mod Named
 pub mod Heights

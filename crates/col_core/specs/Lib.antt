@@ -1,9 +1,11 @@
 pub use Rattle.col_arrays.specs.Bits
 pub use Rattle.col_arrays.specs.Items
-pub use Rattle.col_arrays.specs.Pieces
 pub use Rattle.item_list.specs.Lending
+pub use Rattle.col_arrays.specs.Buffer
 pub mod Values
 pub mod Physical
 pub mod Tables
 pub mod Schemas
 pub mod Refusals
+pub mod Lent
+pub mod Places

@@ -1,6 +1,7 @@
 -- How the values of types are kept, and which values are kept so.
 use Rattle.std.specs.Prelude.{ℤ, Bool, true, false, FitsSigned}
-use Rattle.std.specs.Int.{w8, w16, w32, w64, w128, FitsUnsigned}
+use Rattle.std.specs.Int.{w8, w16, w32, w64, w128, FitsUnsignedBits}
+use Rattle.col_arrays.specs.Buffer.{AreBytes}
 use Rattle.col_core.specs.declared.leaf.Leaf.{Leaf}
 use Rattle.col_core.specs.declared.leaf.Leaf.TheVariants as leaves
 use Rattle.col_core.specs.declared.data_type.PhysicalType.{PhysicalType}
@@ -57,7 +58,7 @@ IsNumber Holds _ = ⊥
 -- a value is null or bytes
 abbrev pub HasBytes : Leaf → Type 0
 HasBytes leaves.Null = Unit {0}
-HasBytes (leaves.Bytes b) = Unit {0}
+HasBytes (leaves.Bytes b) = AreBytes b
 HasBytes _ = ⊥
 
 -- a value can be kept so
@@ -68,8 +69,8 @@ IsKept kept.I16 v = IsNumber (FitsSigned w16) v
 IsKept kept.I32 v = IsNumber (FitsSigned w32) v
 IsKept kept.I64 v = IsNumber (FitsSigned w64) v
 IsKept kept.I128 v = IsNumber (FitsSigned w128) v
-IsKept kept.U8 v = IsNumber (FitsUnsigned w8) v
-IsKept kept.U16 v = IsNumber (FitsUnsigned w16) v
-IsKept kept.U32 v = IsNumber (FitsUnsigned w32) v
-IsKept kept.U64 v = IsNumber (FitsUnsigned w64) v
+IsKept kept.U8 v = IsNumber (FitsUnsignedBits 8) v
+IsKept kept.U16 v = IsNumber (FitsUnsignedBits 16) v
+IsKept kept.U32 v = IsNumber (FitsUnsignedBits 32) v
+IsKept kept.U64 v = IsNumber (FitsUnsignedBits 64) v
 IsKept kept.Bytes v = HasBytes v

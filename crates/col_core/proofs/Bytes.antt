@@ -1,0 +1,9 @@
+-- Bytes are numbers below 2^8.
+use Rattle.std.proofs.Common.{◌<◌, ◌^◌, ℕ, List}
+use Rattle.std.specs.List.{All}
+use Rattle.col_arrays.specs.Buffer.{AreBytes}
+
+pub are_small : (b : List ℕ) → All (λ n. n < 2 ^ 8) b → AreBytes b
+are_small b h = h
+
+pub ruleset are_bytes = (are_small)
