@@ -105,6 +105,14 @@ pub bad_step : (t : DataType) (cs : List Chunk) (i : ℕ) (c : Chunk) → i < le
     → list_any (λ v. not (is_text t v)) (leaves_of (drop i cs)) ≡ (list_any (λ v. not (is_text t v)) (chunk_leaves c) || list_any (λ v. not (is_text t v)) (leaves_of (drop (i + 1) cs)))
 bad_step t cs i c h e = ap (list_any (λ v. not (is_text t v))) (leaves_step cs i c h e) ∙ list_any-append (λ v. not (is_text t v)) (chunk_leaves c) (leaves_of (drop (i + 1) cs))
 
+-- all of a list as a range of it
+pub whole_range : (xs : List Leaf) (n : ℕ) → n ≡ length xs → take n (drop 0 xs) ≡ xs
+whole_range xs n e = rw e (whole xs)
+  where
+    whole : (ys : List Leaf) → take (length ys) (drop 0 ys) ≡ ys
+    whole [] = refl
+    whole (y ∷ ys) = ap (λ vs. y ∷ vs) (whole ys)
+
 pub ruleset steps = (length_step, leaf_here, leaf_past, kind_here, text_here)
 
 pub ruleset joins = (joined_more)
@@ -114,6 +122,8 @@ pub ruleset ones = (one_chunk, leaves_of_one, texts_taken)
 pub ruleset grows = (fits_kept, text_from, built_push)
 
 pub ruleset fits = (kept_fits)
+
+pub ruleset looks = (All-get_or)
 
 pub ruleset tallies = (null_step, null_small)
 

@@ -1,8 +1,10 @@
+pub mod Bytes
 pub mod ItemLeaves
 pub mod Texts
 pub mod Leaves
+pub mod Lent
 pub mod Rows
-pub mod Pointwise
+pub mod Places
 pub mod Equalities
 pub mod Named
 pub mod Heights

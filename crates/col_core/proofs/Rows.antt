@@ -1,7 +1,7 @@
 -- Columns as rows.
-use Rattle.std.proofs.Common.{◌≡◌, ℕ, zero, suc, ◌+◌, ◌<◌, ◌≤◌, take, drop, List, [], ◌∷◌, map, length, get_or, slice_get, Some, refl, sym, ap, ◌∙◌, subst, arith, zero-add}
+use Rattle.std.proofs.Common.{◌≡◌, ◌++◌, ℕ, zero, suc, ◌+◌, ◌<◌, ◌≤◌, take, drop, List, [], ◌∷◌, map, length, get_or, slice_get, Some, refl, sym, ap, ◌∙◌, subst, arith, zero-add}
 use Rattle.std.specs.List.{All, range_with_len}
-use Rattle.std.proofs.lemmas.List.{drop_more, length-map, get_or-map}
+use Rattle.std.proofs.lemmas.List.{drop_more, take_more, map-append, length-map, get_or-map}
 use Rattle.std.proofs.lemmas.List.FromFn.{length-map-range_with_len, get_or-map-range_with_len, fill_by_all}
 use Rattle.std.proofs.lemmas.List.Elements.{All-nil, All-cons, All-get_or, All-weaker, All-map}
 use mathlib.Core.List.{map-map}
@@ -9,7 +9,7 @@ use Rattle.col_core.specs.declared.leaf.Leaf.{Leaf}
 use Rattle.col_core.specs.declared.leaf.Leaf.TheVariants as leaves
 use Rattle.col_core.specs.declared.schema.Field.{Field}
 use Rattle.col_core.specs.Values.{value_at}
-use Rattle.col_core.specs.Tables.{Row, row_at, rows_from, values_at, rows_at, column_of, Column, values_of, header, AreColumnsOf, taken, AreWide}
+use Rattle.col_core.specs.Tables.{Row, row_at, rows_from, values_at, rows_at, column_of, Column, values_of, header, AreColumnsOf, taken, AreWide, Table, field_at}
 
 -- a map agrees where its function does
 pub map_agree : {A B : Type 0} (f g : A → B) → ((a : A) → f a ≡ g a) → (xs : List A) → map f xs ≡ map g xs
@@ -92,5 +92,35 @@ wide schema columns n e k d h =
     let short : k < n = subst (λ (m : ℕ). k < m) (length-rows n (values_of columns)) h in
     ap length (get_or-map-range_with_len (row_at (values_of columns)) 0 n k k d short (zero-add k))
     ∙ length-map (values_of columns) (λ values. value_at values k) ∙ length-map columns (λ (c : Column). c.values) ∙ sym (length-map columns header) ∙ ap length e
+
+-- some columns of a table stand under their fields, and have its rows cut to them
+pub under_selected : (t : Table) (places : List ℕ) (columns : List Column) → map header columns ≡ map (field_at t.schema) places → values_of columns ≡ map (λ i. column_of i t.rows) places
+    → AreColumnsOf (map (field_at t.schema) places) columns (length t.rows)
+under_selected t places columns h v = record {
+  headers = h;
+  lengths = λ k d l. sym (ap length (get_or-map (λ (c : Column). c.values) columns k d [] l))
+      ∙ ap (λ (vs : List (List Leaf)). length (get_or vs k [])) v
+      ∙ ap length (get_or-map (λ (i : ℕ). column_of i t.rows) places k 0 [] (as_long k l))
+      ∙ length-map t.rows (λ row. value_at row (get_or places k 0));
+}
+  where
+    as_long : (k : ℕ) → k < length columns → k < length places
+    as_long k l = subst (λ (n : ℕ). k < n) (sym (length-map columns header) ∙ ap length h ∙ length-map places (field_at t.schema)) l
+
+pub rows_selected : (t : Table) (places : List ℕ) (columns : List Column) → values_of columns ≡ map (λ i. column_of i t.rows) places → rows_from (length t.rows) (values_of columns) ≡ map (λ row. values_at row places) t.rows
+rows_selected t places columns v = ap (rows_from (length t.rows)) v ∙ transposed (λ (i : ℕ) (row : Row). value_at row i) places t.rows
+
+pub field_found : (schema : List Field) (i : ℕ) (f : Field) → slice_get schema i ≡ Some f → field_at schema i ≡ f
+field_found [] i f h = cc
+field_found (x ∷ xs) zero f h = let same : x ≡ f = cc in same
+field_found (x ∷ xs) (suc i) f h = field_found xs i f h
+
+-- a list that is made item by item from another, one item further
+pub mapped_more : {X Y : Type 0} (f : X → Y) (xs : List X) (i : ℕ) (d : X) (done new : List Y) (y : Y) → i < length xs → done ≡ map f (take i xs) → new ≡ done ++ y ∷ [] → f (get_or xs i d) ≡ y → new ≡ map f (take (i + 1) xs)
+mapped_more f xs i d done new y h e n same =
+    n ∙ ap (λ ys. ys ++ y ∷ []) e ∙ ap (λ z. map f (take i xs) ++ z ∷ []) (sym same)
+    ∙ sym (ap (map f) (take_more xs i d h) ∙ map-append f (take i xs) (get_or xs i d ∷ []))
+
+pub ruleset fields = (field_found)
 
 pub ruleset row_facts = (length-rows, column_from_rows, field_of)

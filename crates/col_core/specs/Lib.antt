@@ -7,3 +7,5 @@ pub mod Tables
 pub mod Schemas
 pub mod Refusals
 pub mod Lending
+pub mod Lent
+pub mod Places

@@ -1,6 +1,7 @@
 -- How the values of types are kept, and which values are kept so.
 use Rattle.std.specs.Prelude.{ℤ, Bool, true, false, FitsSigned}
 use Rattle.std.specs.Int.{w8, w16, w32, w64, w128, FitsUnsigned}
+use Rattle.col_core.specs.Values.{AreBytes}
 use Rattle.col_core.specs.declared.leaf.Leaf.{Leaf}
 use Rattle.col_core.specs.declared.leaf.Leaf.TheVariants as leaves
 use Rattle.col_core.specs.declared.data_type.PhysicalType.{PhysicalType}
@@ -57,7 +58,7 @@ IsNumber Holds _ = ⊥
 -- a value is null or bytes
 abbrev pub HasBytes : Leaf → Type 0
 HasBytes leaves.Null = Unit {0}
-HasBytes (leaves.Bytes b) = Unit {0}
+HasBytes (leaves.Bytes b) = AreBytes b
 HasBytes _ = ⊥
 
 -- a value can be kept so

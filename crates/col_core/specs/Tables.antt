@@ -3,6 +3,7 @@ use Rattle.std.specs.Prelude.{◌≡◌, ◌<◌, ◌^◌, ℕ, pos, Bool, List,
 use Rattle.std.specs.List.{flat_map, range_with_len, All}
 use Rattle.col_core.specs.declared.leaf.Leaf.{Leaf}
 use Rattle.col_core.specs.declared.data_type.DataType.{DataType}
+use Rattle.col_core.specs.declared.data_type.DataType.TheVariants.{Binary}
 use Rattle.col_core.specs.declared.schema.Field.{Field}
 use Rattle.col_core.specs.declared.chunk.Chunk.{Chunk}
 use Rattle.col_core.specs.declared.chunk.Chunk.TheVariants as chunks
@@ -116,6 +117,17 @@ values_of columns = map (λ c. c.values) columns
 -- each row has a value for each field
 abbrev pub AreWide : Table → Type 0
 AreWide t = All (λ row. length row ≡ length t.schema) t.rows
+
+-- a field that stands for none
+abbrev pub no_field : Field
+no_field = record { name = []; dtype = Binary }
+
+abbrev pub field_at : List Field → ℕ → Field
+field_at schema i = slice_index_or schema i no_field
+
+-- some of a table's columns, by their places
+abbrev pub selected : List ℕ → Table → Table
+selected places t = record { schema = map (field_at t.schema) places; rows = map (λ row. values_at row places) t.rows }
 
 -- columns of one height, under a schema
 pub record AreColumnsOf (schema : List Field) (columns : List Column) (height : ℕ) : Type 0 where

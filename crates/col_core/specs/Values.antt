@@ -1,7 +1,10 @@
 -- Values, the items of arrays, and which values a type holds.
-use Rattle.std.specs.Prelude.{◌≡◌, ℕ, ℤ, Bool, true, false, not, ◌||◌, cond, List, Option, Some, None, FitsSigned, IsTrue, slice_index_or}
+use Rattle.std.specs.Prelude.{◌≡◌, ◌<◌, ◌^◌, ℕ, ℤ, Bool, true, false, not, ◌||◌, cond, List, Option, Some, None, FitsSigned, IsTrue, slice_index_or}
+use Rattle.std.specs.Bool.{beq}
+use Rattle.std.specs.Ordering.{int_eq}
 use Rattle.std.specs.Int.{w8, w16, w32, w64, w128, FitsUnsigned}
-use Rattle.std.specs.Str.{IsUtf8, is_utf8}
+use Rattle.std.specs.Str.{IsUtf8, is_utf8, bytes_eq}
+use Rattle.list_laws.specs.Each.{Each}
 use Rattle.col_core.specs.Schemas.{dtype_eq}
 use Rattle.col_core.specs.declared.leaf.Leaf.{Leaf}
 use Rattle.col_core.specs.declared.leaf.Leaf.TheVariants as leaves
@@ -26,10 +29,14 @@ IsWholeOf (Datetime u) z = FitsSigned w64 z
 IsWholeOf (Duration u) z = FitsSigned w64 z
 IsWholeOf _ z = ⊥
 
+-- bytes are numbers below 2^8
+abbrev pub AreBytes : List ℕ → Type 0
+AreBytes b = Each (λ n. n < 2 ^ 8) b
+
 -- the bytes of a type
 abbrev pub AreBytesOf : DataType → List ℕ → Type 0
-AreBytesOf String b = IsUtf8 b
-AreBytesOf Binary b = Unit {0}
+AreBytesOf String b = AreBytes b × IsUtf8 b
+AreBytesOf Binary b = AreBytes b
 AreBytesOf _ b = ⊥
 
 -- a value fits a type when it is null, or of the type's kind and range
@@ -43,6 +50,14 @@ Fits t (leaves.Bytes b) = AreBytesOf t b
 abbrev pub is_null : Leaf → Bool
 is_null leaves.Null = true
 is_null _ = false
+
+-- two values are equal when they are the same; two nulls are equal
+abbrev pub leaf_eq : Leaf → Leaf → Bool
+leaf_eq leaves.Null leaves.Null = true
+leaf_eq (leaves.Bool a) (leaves.Bool b) = beq a b
+leaf_eq (leaves.Whole a) (leaves.Whole b) = int_eq a b
+leaf_eq (leaves.Bytes a) (leaves.Bytes b) = bytes_eq a b
+leaf_eq _ _ = false
 
 -- bytes of the type String are UTF-8; any other value is as it may be
 abbrev pub is_text : DataType → Leaf → Bool

@@ -1,11 +1,12 @@
 //! Columns that grow.
 ghost use Rattle.std.specs.Prelude.{◌≡◌, ◌<◌, [], ◌∷◌, ◌++◌, length, OnOk, OnErr, IfOk};
+ghost use Rattle.col_core.specs.Lent.{lent_leaf};
 ghost use Rattle.col_core.specs.Tables.{Column, Growing};
 ghost use Rattle.col_core.specs.Values.{value_at, Fits};
 
 use crate::chunk::Chunk;
 use crate::data_type::DataType;
-use crate::leaf::Leaf;
+use crate::leaf::{Leaf, LeafRef};
 use crate::series::Series;
 use crate::text::Name;
 use std::alloc::{AllocError, Global};
@@ -19,6 +20,7 @@ pub struct ColumnBuilder {
 }
 
 impl Model for ColumnBuilder {
+    ghost use Rattle.col_core.specs.Lent.{lent_leaf};
     ghost use Rattle.col_core.specs.Tables.{Growing, chunk_leaves, IsBuilt};
 
     ghost Value = { Growing };
@@ -46,15 +48,32 @@ impl ColumnBuilder {
         self.chunk.len()
     }
 
-    /// Appends a value that fits the type. After `Err` the column is as it was.
+    /// The type of the column.
+    pub fn dtype(&self) -> DataType
+        ensures { result ≡ self.now.dtype }
+    {
+        self.dtype
+    }
+
+    /// Appends a value that fits the type, as `LeafRef::fits` tells. After `Err` the column is as it
+    /// was.
     #[tactic(auto, using(crate::proofs::Leaves::grows))]
+    pub fn push_ref(&mut self, value: LeafRef<'_>) -> Result<(), AllocError>
+        requires { Fits self.old.dtype (lent_leaf value) }
+        ensures ok { OnOk result (self.new ≡ record { dtype = self.old.dtype; values = self.old.values ++ lent_leaf value.entry ∷ [] }) }
+        ensures err { OnErr result (self.new ≡ self.old) }
+    {
+        self.chunk.push_ref(value)?;
+        Ok(())
+    }
+
+    /// Appends a value that fits the type. After `Err` the column is as it was.
     pub fn push_leaf(&mut self, value: &Leaf) -> Result<(), AllocError>
         requires { Fits self.old.dtype value.now }
         ensures ok { OnOk result (self.new ≡ record { dtype = self.old.dtype; values = self.old.values ++ value.now ∷ [] }) }
         ensures err { OnErr result (self.new ≡ self.old) }
     {
-        self.chunk.push(value)?;
-        Ok(())
+        self.push_ref(value.as_ref())
     }
 
     /// Appends the value at a place of a column of the same type. After `Err` the column is as it

@@ -1,13 +1,15 @@
 //! The pieces of a column.
 ghost use Rattle.std.specs.Prelude.{◌≡◌, ◌<◌, ◌≤◌, ◌+◌, [], ◌∷◌, ◌++◌, not, take, drop, length, OnOk, OnErr, IfOk};
 ghost use Rattle.std.specs.List.{All, count_by, list_any};
+ghost use Rattle.col_core.specs.declared.leaf.Leaf.TheVariants as leaves;
+ghost use Rattle.col_core.specs.Lent.{lent_leaf};
 ghost use Rattle.col_core.specs.Physical.{IsKept};
 ghost use Rattle.col_core.specs.Tables.{chunk_leaves, chunk_physical, is_of_kind, values_at};
 ghost use Rattle.col_core.specs.Values.{value_at, is_null, is_text};
 
 use crate::data_type::{DataType, PhysicalType, same_type};
 use crate::items::{ValueArray, has_bad_text};
-use crate::leaf::Leaf;
+use crate::leaf::LeafRef;
 use col_arrays::{BinaryArray, BooleanArray, IdxSize, PrimitiveArray};
 use std::alloc::{AllocError, Global};
 
@@ -158,23 +160,34 @@ impl Chunk {
         }
     }
 
-    /// The value at a place.
-    pub fn leaf(&self, alloc: Global, i: usize) -> Result<Leaf, AllocError>
+    /// The value at a place, lent.
+    #[inline(always)]
+    pub fn leaf_ref(&self, i: usize) -> LeafRef<'_>
         requires { i < length (chunk_leaves self.now) }
-        ensures value { IfOk result (λ v. v ≡ value_at (chunk_leaves self.now) i) }
-        ensures kept { IfOk result (λ v. IsKept (chunk_physical self.now) v) }
+        ensures value { lent_leaf result ≡ value_at (chunk_leaves self.now) i }
+        ensures kept { IsKept (chunk_physical self.now) (lent_leaf result) }
     {
-        with_array!(self, items => items.value_at(alloc, i))
+        with_array!(self, items => items.lent(i))
     }
 
     /// Appends a value. After `Err` the values are as they were.
-    pub fn push(&mut self, value: &Leaf) -> Result<(), AllocError>
-        requires { IsKept (chunk_physical self.old) value.now }
-        ensures ok { OnOk result (chunk_leaves self.new ≡ chunk_leaves self.old ++ value.now ∷ []) }
+    #[inline(always)]
+    pub fn push_ref(&mut self, value: LeafRef<'_>) -> Result<(), AllocError>
+        requires { IsKept (chunk_physical self.old) (lent_leaf value) }
+        ensures ok { OnOk result (chunk_leaves self.new ≡ chunk_leaves self.old ++ lent_leaf value.entry ∷ []) }
         ensures err { OnErr result (self.new ≡ self.old) }
         ensures kind { chunk_physical self.new ≡ chunk_physical self.old }
     {
         with_array!(self, items => items.push_value(value))
+    }
+
+    /// Appends a null. After `Err` the values are as they were.
+    pub fn push_null(&mut self) -> Result<(), AllocError>
+        ensures ok { OnOk result (chunk_leaves self.new ≡ chunk_leaves self.old ++ leaves.Null ∷ []) }
+        ensures err { OnErr result (self.new ≡ self.old) }
+        ensures kind { chunk_physical self.new ≡ chunk_physical self.old }
+    {
+        with_array!(self, items => items.push_missing())
     }
 
     /// Appends the item at a place of a chunk of the same physical type. After `Err` the values are

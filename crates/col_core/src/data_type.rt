@@ -1,6 +1,7 @@
 //! The types of columns.
-ghost use Rattle.std.specs.Prelude.{◌≡◌};
+ghost use Rattle.std.specs.Prelude.{◌≡◌, ◌↔◌, ◌≤ℤ◌, IsTrue};
 ghost use Rattle.col_core.specs.Schemas.{dtype_eq};
+ghost use Rattle.col_core.specs.Values.{IsWholeOf};
 ghost use Rattle.col_core.specs.Physical.{physical_of};
 
 /// The unit of a time.
@@ -100,6 +101,31 @@ impl DataType {
             DataType::String | DataType::Binary => PhysicalType::Bytes,
         }
     }
+
+    /// Whether a whole number is one of the type's.
+    pub fn holds_whole(self, z: i128) -> bool
+        ensures { IsTrue result ↔ IsWholeOf self z }
+    {
+        match self.physical() {
+            PhysicalType::I8 => is_between(z, i8::MIN as i128, i8::MAX as i128),
+            PhysicalType::I16 => is_between(z, i16::MIN as i128, i16::MAX as i128),
+            PhysicalType::I32 => is_between(z, i32::MIN as i128, i32::MAX as i128),
+            PhysicalType::I64 => is_between(z, i64::MIN as i128, i64::MAX as i128),
+            PhysicalType::I128 => true,
+            PhysicalType::U8 => is_between(z, 0, u8::MAX as i128),
+            PhysicalType::U16 => is_between(z, 0, u16::MAX as i128),
+            PhysicalType::U32 => is_between(z, 0, u32::MAX as i128),
+            PhysicalType::U64 => is_between(z, 0, u64::MAX as i128),
+            PhysicalType::Boolean | PhysicalType::Bytes => false,
+        }
+    }
+}
+
+/// Whether a number lies from the least to the greatest, these two among them.
+fn is_between(z: i128, least: i128, greatest: i128) -> bool
+    ensures { IsTrue result ↔ (least ≤ℤ z) × (z ≤ℤ greatest) }
+{
+    least <= z && z <= greatest
 }
 
 /// Whether two types are the same, with the same precision, scale or unit.

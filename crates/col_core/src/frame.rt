@@ -4,7 +4,7 @@ ghost use Rattle.std.specs.Option.{unwrap_or};
 ghost use Rattle.col_core.specs.declared.frame.FrameError.TheVariants.{Memory};
 ghost use Rattle.col_core.specs.Refusals.{frame_refusal, height_of, differ_in_height, has_types};
 ghost use Rattle.std.specs.List.{All};
-ghost use Rattle.col_core.specs.Tables.{Table, Column, column_of, rows_at, rows_from, values_of, header, AreColumnsOf, AreWide};
+ghost use Rattle.col_core.specs.Tables.{Table, Column, column_of, rows_at, rows_from, values_of, header, AreColumnsOf, AreWide, selected};
 
 use crate::IdxSize;
 use crate::schema::{Field, Schema};
@@ -129,6 +129,20 @@ impl Frame {
         Ok(Frame::from_columns(self.schema.try_clone(alloc)?, columns, idxs.len()))
     }
 
+    /// Some of the columns, by their places, each in one chunk.
+    #[tactic(auto, using(crate::proofs::Rows::row_facts, crate::proofs::Rows::fields))]
+    pub fn select(&self, alloc: Global, places: &[usize]) -> Result<Frame, AllocError>
+        requires in_bounds { All (λ i. i < length self.now.schema) places.now }
+        ensures { IfOk result (λ f. f ≡ selected places.now self.now) }
+    {
+        let mut columns = Vec::new(alloc);
+        for place in places {
+            columns.push(self.column(*place).try_clone(alloc)?)?;
+        }
+        let schema = self.schema().select(alloc, places)?;
+        Ok(Frame::from_columns(schema, columns, self.height()))
+    }
+
     /// The `len` rows from `start` on, each column in one chunk.
     pub fn slice(&self, alloc: Global, start: usize, len: usize) -> Result<Frame, AllocError>
         requires in_bounds { start + len ≤ length self.now.rows }
@@ -174,7 +188,7 @@ fn differ_in_height(columns: &[Series]) -> bool
     columns.iter().any(|column| column.len() != height)
 }
 
-#[tactic(auto, using(crate::proofs::Pointwise::place_by_place))]
+#[tactic(auto, using(list_laws::proofs::Pointwise::place_by_place))]
 fn has_types(fields: &[Field], columns: &[Series]) -> bool
     requires { length columns.now ≡ length fields.now }
     ensures { result ≡ has_types fields.now columns.now }

@@ -4,12 +4,13 @@ ghost use Rattle.std.specs.List.{All, count_by, list_any};
 ghost use Rattle.col_core.specs.declared.data_type.DataType.TheVariants as types;
 ghost use Rattle.col_core.specs.declared.leaf.Leaf.{Leaf};
 ghost use Rattle.col_core.specs.declared.leaf.Leaf.TheVariants as leaves;
+ghost use Rattle.col_core.specs.Lent.{lent_leaf};
 ghost use Rattle.col_core.specs.Physical.{IsTruth, IsNumber, HasBytes};
 ghost use Rattle.col_core.specs.Tables.{values_at};
 ghost use Rattle.col_core.specs.Values.{value_at, item_leaf, number_leaf, is_null, is_text, is_bad_text};
 
-use crate::leaf::Leaf;
-use crate::text::Blob;
+use crate::leaf::LeafRef;
+use crate::text::small_bytes;
 use col_arrays::{BinaryArray, BooleanArray, IdxSize, Native, PrimitiveArray};
 use std::alloc::{AllocError, Global};
 use std::str::from_utf8;
@@ -22,6 +23,10 @@ pub(crate) trait ValueArray: Sized {
     // The values that can be kept.
     ghost keeps: { Leaf → Type 0 };
 
+    /// No items yet.
+    fn empty(alloc: Global) -> Self
+        ensures { values result ≡ [] };
+
     /// The number of items.
     fn count(&self) -> usize
         ensures { result ≡ length (values self.now) };
@@ -30,16 +35,21 @@ pub(crate) trait ValueArray: Sized {
     fn count_null(&self) -> usize
         ensures { result ≡ count_by is_null (values self.now) };
 
-    /// The value at a place.
-    fn value_at(&self, alloc: Global, i: usize) -> Result<Leaf, AllocError>
+    /// The value at a place, lent.
+    fn lent(&self, i: usize) -> LeafRef<'_>
         requires { i < length (values self.now) }
-        ensures value { IfOk result (λ v. v ≡ value_at (values self.now) i) }
-        ensures kept { IfOk result keeps };
+        ensures value { lent_leaf result ≡ value_at (values self.now) i }
+        ensures kept { keeps (lent_leaf result) };
 
     /// Appends a value. After `Err` the items are as they were.
-    fn push_value(&mut self, value: &Leaf) -> Result<(), AllocError>
-        requires { keeps value.now }
-        ensures ok { OnOk result (values self.new ≡ values self.old ++ value.now ∷ []) }
+    fn push_value(&mut self, value: LeafRef<'_>) -> Result<(), AllocError>
+        requires { keeps (lent_leaf value) }
+        ensures ok { OnOk result (values self.new ≡ values self.old ++ lent_leaf value.entry ∷ []) }
+        ensures err { OnErr result (self.new ≡ self.old) };
+
+    /// Appends a null. After `Err` the items are as they were.
+    fn push_missing(&mut self) -> Result<(), AllocError>
+        ensures ok { OnOk result (values self.new ≡ values self.old ++ leaves.Null ∷ []) }
         ensures err { OnErr result (self.new ≡ self.old) };
 
     /// Appends the item at a place of another array. After `Err` the items are as they were.
@@ -65,6 +75,10 @@ impl ValueArray for BooleanArray {
 
     ghost keeps = { IsTruth };
 
+    fn empty(alloc: Global) -> Self {
+        BooleanArray::new(alloc)
+    }
+
     fn count(&self) -> usize {
         self.len()
     }
@@ -73,20 +87,28 @@ impl ValueArray for BooleanArray {
         self.null_count()
     }
 
-    fn value_at(&self, _alloc: Global, i: usize) -> Result<Leaf, AllocError> {
+    #[inline(always)]
+    fn lent(&self, i: usize) -> LeafRef<'_> {
         match self.get(i) {
-            Some(b) => Ok(Leaf::Bool(b)),
-            None => Ok(Leaf::Null),
+            Some(b) => LeafRef::Bool(b),
+            None => LeafRef::Null,
         }
     }
 
-    fn push_value(&mut self, value: &Leaf) -> Result<(), AllocError> {
+    #[inline(always)]
+    fn push_value(&mut self, value: LeafRef<'_>) -> Result<(), AllocError> {
         match value {
-            Leaf::Bool(b) => self.push(*b, true),
+            LeafRef::Bool(b) => self.push(b, true),
             _ => self.push_null(),
         }
     }
 
+    #[inline(always)]
+    fn push_missing(&mut self) -> Result<(), AllocError> {
+        self.push_null()
+    }
+
+    #[inline(always)]
     fn push_item(&mut self, source: &Self, i: usize) -> Result<(), AllocError> {
         self.push_from(source, i)
     }
@@ -106,6 +128,10 @@ impl<T: Native> ValueArray for PrimitiveArray<T> {
 
     ghost keeps = { IsNumber T.holds };
 
+    fn empty(alloc: Global) -> Self {
+        PrimitiveArray::new(alloc)
+    }
+
     fn count(&self) -> usize {
         self.len()
     }
@@ -114,20 +140,28 @@ impl<T: Native> ValueArray for PrimitiveArray<T> {
         self.null_count()
     }
 
-    fn value_at(&self, _alloc: Global, i: usize) -> Result<Leaf, AllocError> {
+    #[inline(always)]
+    fn lent(&self, i: usize) -> LeafRef<'_> {
         match self.get(i) {
-            Some(n) => Ok(Leaf::Whole(n.to_whole())),
-            None => Ok(Leaf::Null),
+            Some(n) => LeafRef::Whole(n.to_whole()),
+            None => LeafRef::Null,
         }
     }
 
-    fn push_value(&mut self, value: &Leaf) -> Result<(), AllocError> {
+    #[inline(always)]
+    fn push_value(&mut self, value: LeafRef<'_>) -> Result<(), AllocError> {
         match value {
-            Leaf::Whole(z) => self.push(T::from_whole(*z), true),
+            LeafRef::Whole(z) => self.push(T::from_whole(z), true),
             _ => self.push_null(),
         }
     }
 
+    #[inline(always)]
+    fn push_missing(&mut self) -> Result<(), AllocError> {
+        self.push_null()
+    }
+
+    #[inline(always)]
     fn push_item(&mut self, source: &Self, i: usize) -> Result<(), AllocError> {
         self.push_from(source, i)
     }
@@ -147,6 +181,10 @@ impl ValueArray for BinaryArray {
 
     ghost keeps = { HasBytes };
 
+    fn empty(alloc: Global) -> Self {
+        BinaryArray::new(alloc)
+    }
+
     fn count(&self) -> usize {
         self.len()
     }
@@ -155,20 +193,28 @@ impl ValueArray for BinaryArray {
         self.null_count()
     }
 
-    fn value_at(&self, alloc: Global, i: usize) -> Result<Leaf, AllocError> {
+    #[inline(always)]
+    fn lent(&self, i: usize) -> LeafRef<'_> {
         match self.get(i) {
-            Some(b) => Ok(Leaf::Bytes(Blob::new(alloc, b)?)),
-            None => Ok(Leaf::Null),
+            Some(b) => LeafRef::Bytes(small_bytes(b)),
+            None => LeafRef::Null,
         }
     }
 
-    fn push_value(&mut self, value: &Leaf) -> Result<(), AllocError> {
+    #[inline(always)]
+    fn push_value(&mut self, value: LeafRef<'_>) -> Result<(), AllocError> {
         match value {
-            Leaf::Bytes(b) => self.push(b.as_slice(), true),
+            LeafRef::Bytes(b) => self.push(b, true),
             _ => self.push_null(),
         }
     }
 
+    #[inline(always)]
+    fn push_missing(&mut self) -> Result<(), AllocError> {
+        self.push_null()
+    }
+
+    #[inline(always)]
     fn push_item(&mut self, source: &Self, i: usize) -> Result<(), AllocError> {
         self.push_from(source, i)
     }

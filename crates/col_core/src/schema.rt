@@ -1,5 +1,7 @@
 //! Fields and schemas.
-ghost use Rattle.std.specs.Prelude.{◌≡◌, ◌<◌, [], ◌∷◌, ◌++◌, length, IfOk, IfErr, OnOk, OnErr, slice_get, Some};
+ghost use Rattle.std.specs.List.{All};
+ghost use Rattle.col_core.specs.Tables.{field_at};
+ghost use Rattle.std.specs.Prelude.{◌≡◌, ◌<◌, [], ◌∷◌, ◌++◌, length, map, IfOk, IfErr, OnOk, OnErr, slice_get, Some};
 ghost use Rattle.col_core.specs.Schemas.{field_position, type_named, field_eq, schema_eq};
 
 use crate::data_type::DataType;
@@ -106,6 +108,23 @@ impl Schema {
         are_same_fields(&self.fields, &other.fields)
     }
 
+    /// Some of the fields, by their places.
+    #[tactic(auto, using(crate::proofs::Rows::fields))]
+    pub fn select(&self, alloc: Global, places: &[usize]) -> Result<Schema, AllocError>
+        requires in_bounds { All (λ i. i < length self.now) places.now }
+        ensures { IfOk result (λ s. s ≡ map (field_at self.now) places.now) }
+    {
+        let mut fields = Vec::with_capacity(alloc, places.len())?;
+        for place in places {
+            let field = self.field(*place);
+            fields.push(Field {
+                name: Name::new(alloc, field.name.as_str())?,
+                dtype: field.dtype,
+            })?;
+        }
+        Ok(Schema { fields })
+    }
+
     /// An equal schema.
     pub fn try_clone(&self, alloc: Global) -> Result<Schema, AllocError>
         ensures { IfOk result (λ s. s ≡ self.now) }
@@ -133,7 +152,7 @@ fn is_same_field(a: &Field, b: &Field) -> bool
     a.name.as_str() == b.name.as_str() && a.dtype == b.dtype
 }
 
-#[tactic(auto, using(crate::proofs::Pointwise::place_by_place))]
+#[tactic(auto, using(list_laws::proofs::Pointwise::place_by_place))]
 fn are_same_fields(a: &[Field], b: &[Field]) -> bool
     ensures { result ≡ schema_eq a.now b.now }
 {

@@ -1,8 +1,9 @@
 //! Columns.
-ghost use Rattle.std.specs.Prelude.{◌≡◌, ◌<◌, ◌≤◌, ◌+◌, ◌^◌, not, length, take, drop, IfOk, IfErr, None};
+ghost use Rattle.std.specs.Prelude.{◌≡◌, ◌<◌, ◌≤◌, ◌+◌, ◌^◌, not, length, take, drop, IfOk, IfErr, IfSome, None};
 ghost use Rattle.std.specs.List.{All, count_by, list_any, range_with_len};
 ghost use Rattle.std.specs.Option.{unwrap_or};
 ghost use Rattle.col_core.specs.declared.series.ColumnError.TheVariants.{Memory};
+ghost use Rattle.col_core.specs.Lent.{lent_leaf};
 ghost use Rattle.col_core.specs.Refusals.{column_refusal};
 ghost use Rattle.col_core.specs.Tables.{Column, leaves_of, chunk_leaves, values_at, taken, AreChunksOf, IsOfKind, is_of_kind};
 ghost use Rattle.col_core.specs.Values.{value_at, Fits, IsText, is_null, is_text};
@@ -10,7 +11,7 @@ ghost use Rattle.col_core.specs.Values.{value_at, Fits, IsText, is_null, is_text
 use crate::IdxSize;
 use crate::chunk::Chunk;
 use crate::data_type::DataType;
-use crate::leaf::Leaf;
+use crate::leaf::{Leaf, LeafRef};
 use crate::text::Name;
 use std::alloc::{AllocError, Global};
 use std::cmp::min;
@@ -109,6 +110,18 @@ impl Series {
         &self.chunks
     }
 
+    /// The chunk of a column of one chunk.
+    #[tactic(auto, using(crate::proofs::Leaves::ones))]
+    pub(crate) fn only_chunk(&self) -> Option<&Chunk>
+        ensures kind { IfSome result (λ chunk. IsOfKind self.now.dtype chunk.now) }
+        ensures values { IfSome result (λ chunk. chunk_leaves chunk.now ≡ self.now.values) }
+    {
+        match self.chunks() {
+            [chunk] => Some(chunk),
+            _ => None,
+        }
+    }
+
     /// The number of values, nulls among them.
     pub fn len(&self) -> usize
         ensures { result ≡ length self.now.values }
@@ -151,15 +164,25 @@ impl Series {
         unreachable!()
     }
 
-    /// The value at a place, which fits the type.
+    /// The value at a place, lent. It fits the type.
+    #[inline(always)]
     #[tactic(auto, using(crate::proofs::Leaves::fits))]
+    pub fn leaf_ref(&self, i: usize) -> LeafRef<'_>
+        requires { i < length self.now.values }
+        ensures value { lent_leaf result ≡ value_at self.now.values i }
+        ensures fits { Fits self.now.dtype (lent_leaf result) }
+    {
+        let (chunk, place) = self.chunk_at(i);
+        chunk.leaf_ref(place)
+    }
+
+    /// A copy of the value at a place, which fits the type.
     pub fn leaf(&self, alloc: Global, i: usize) -> Result<Leaf, AllocError>
         requires { i < length self.now.values }
         ensures value { IfOk result (λ v. v ≡ value_at self.now.values i) }
         ensures fits { IfOk result (λ v. Fits self.now.dtype v) }
     {
-        let (chunk, place) = self.chunk_at(i);
-        chunk.leaf(alloc, place)
+        self.leaf_ref(i).to_leaf(alloc)
     }
 
     /// The values at indexes, in the order of the indexes, in one chunk under the same name.
@@ -173,7 +196,7 @@ impl Series {
         Series::from_chunk(alloc, name, self.dtype(), chunk)
     }
 
-    /// The chunk of the values at indexes. A column of several chunks is joined into one first.
+    /// The chunk of the values at indexes. In a column of several chunks each value is looked up.
     fn taken_chunk(&self, alloc: Global, idxs: &[IdxSize]) -> Result<Chunk, AllocError>
         requires in_bounds { All (λ i. i < length self.now.values) idxs.now }
         ensures values { IfOk result (λ c. chunk_leaves c ≡ values_at self.now.values idxs.now) }
@@ -181,8 +204,51 @@ impl Series {
     {
         match self.chunks() {
             [chunk] => chunk.take(alloc, idxs),
-            _ => self.joined_chunk(alloc, 0, self.len())?.take(alloc, idxs),
+            _ => self.looked_up_chunk(alloc, idxs),
         }
+    }
+
+    /// The chunk of the values at indexes, each looked up among the chunks.
+    #[tactic(auto, using(crate::proofs::Leaves::looks))]
+    fn looked_up_chunk(&self, alloc: Global, idxs: &[IdxSize]) -> Result<Chunk, AllocError>
+        requires in_bounds { All (λ i. i < length self.now.values) idxs.now }
+        ensures values { IfOk result (λ c. chunk_leaves c ≡ values_at self.now.values idxs.now) }
+        ensures kind { IfOk result (IsOfKind self.now.dtype) }
+    {
+        let mut taken = Chunk::new(alloc, self.dtype().physical());
+        for idx in idxs {
+            let (chunk, place) = self.chunk_at(*idx as usize);
+            taken.push_from(chunk, place)?;
+        }
+        Ok(taken)
+    }
+
+    /// An equal column, in one chunk.
+    #[tactic(auto, using(crate::proofs::Leaves::ones))]
+    pub fn try_clone(&self, alloc: Global) -> Result<Series, AllocError>
+        ensures { IfOk result (λ s. s ≡ self.now) }
+    {
+        let chunk = self.whole_chunk(alloc)?;
+        let name = Name::new(alloc, self.name().as_str())?;
+        Series::from_chunk(alloc, name, self.dtype(), chunk)
+    }
+
+    /// The same column in one chunk. A column of one chunk is handed back as it is.
+    pub fn rechunk(self, alloc: Global) -> Result<Series, AllocError>
+        ensures { IfOk result (λ s. s ≡ self) }
+    {
+        match self.chunks() {
+            [_] => Ok(self),
+            _ => self.try_clone(alloc),
+        }
+    }
+
+    /// The chunk of all values.
+    fn whole_chunk(&self, alloc: Global) -> Result<Chunk, AllocError>
+        ensures values { IfOk result (λ c. chunk_leaves c ≡ self.now.values) }
+        ensures kind { IfOk result (IsOfKind self.now.dtype) }
+    {
+        self.joined_chunk(alloc, 0, self.len())
     }
 
     /// The `len` values from `start` on, in one chunk under the same name.

@@ -1,5 +1,6 @@
 //! Texts and bytes that contracts see as lists.
 ghost use Rattle.std.specs.Prelude.{◌≡◌, ◌++◌, length, IfOk};
+ghost use Rattle.col_core.specs.Values.{AreBytes};
 
 use std::alloc::{AllocError, Global};
 use std::marker::Model;
@@ -59,20 +60,39 @@ impl Model for Blob {
     ghost view = { λ b. b.bytes.items };
 }
 
+#[tactic(auto, using(crate::proofs::Bytes::are_bytes))]
 impl Blob {
     /// A copy of bytes.
     pub fn new(alloc: Global, bytes: &[u8]) -> Result<Blob, AllocError>
-        ensures { IfOk result (λ b. b ≡ bytes.now) }
+        ensures bytes { IfOk result (λ b. b ≡ bytes.now) }
+        ensures small { IfOk result AreBytes }
     {
-        Ok(Blob {
-            bytes: Vec::from_slice(alloc, bytes)?,
-        })
+        Ok(Blob::from_vec(Vec::from_slice(alloc, bytes)?))
     }
 
-    /// The bytes.
-    pub fn as_slice(&self) -> &[u8]
-        ensures { result.now ≡ self.now }
+    /// A vector of bytes as it is.
+    pub fn from_vec(v: Vec<u8>) -> Blob
+        ensures bytes { result ≡ v.items }
+        ensures small { AreBytes result }
     {
-        &self.bytes
+        Blob { bytes: v }
     }
+
+    /// The bytes, which are numbers below 2^8.
+    pub fn as_slice(&self) -> &[u8]
+        ensures bytes { result.now ≡ self.now }
+        ensures small { AreBytes result.now }
+    {
+        small_bytes(&self.bytes)
+    }
+}
+
+/// The same bytes, which are numbers below 2^8.
+#[inline(always)]
+#[tactic(auto, using(crate::proofs::Bytes::are_bytes))]
+pub(crate) fn small_bytes(bytes: &[u8]) -> &[u8]
+    ensures same { result.now ≡ bytes.now }
+    ensures small { AreBytes result.now }
+{
+    bytes
 }

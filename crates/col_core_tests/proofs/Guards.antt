@@ -1,5 +1,8 @@
 -- What holds of each item of a list, item by item.
-use Rattle.std.proofs.Common.{◌≡◌, ℕ, ◌+◌, ◌<◌, ◌≤◌, List, [], ◌∷◌, length, take, get_or, sym, subst}
+use Rattle.std.proofs.Common.{◌≡◌, ℕ, ◌+◌, ◌<◌, ◌≤◌, List, [], ◌∷◌, length, take, get_or, slice_get, Some, ap, sym, subst}
+use Rattle.std.specs.Option.{option_map}
+use Rattle.col_core.specs.declared.schema.Field.{Field}
+use Rattle.col_core.specs.Places.{type_at}
 use Rattle.std.specs.List.{All}
 use Rattle.std.proofs.lemmas.List.{append-nil}
 use Rattle.col_core.specs.declared.chunk.Chunk.{Chunk}
@@ -17,3 +20,8 @@ pub leaves_of_one : (c : Chunk) → leaves_of (c ∷ []) ≡ chunk_leaves c
 leaves_of_one c = append-nil (chunk_leaves c)
 
 pub ruleset one_chunk = (leaves_of_one)
+
+pub first_type : (schema : List Field) (f : Field) → slice_get schema 0 ≡ Some f → type_at schema 0 ≡ Some f.dtype
+first_type schema f h = ap (option_map (λ (g : Field). g.dtype)) h
+
+pub ruleset first_types = (first_type)

@@ -94,9 +94,12 @@ fn values_of_several_chunks(rt: HostRuntime) -> Result<(), AllocError> {
         assert_eq!(rt; days.name().as_str(), "day");
         assert_eq!(rt; days.chunks().len(), 3);
         assert_eq!(rt; days.null_count(), 1);
-        assert!(rt; has_numbers(alloc, &days, &[Some(3), None, Some(5)])?);
+        assert!(rt; has_numbers(&days, &[Some(3), None, Some(5)]));
         if let Some(taken) = taken(alloc, &days, &[2, 1, 0, 2])? {
-            assert!(rt; has_numbers(alloc, &taken, &[Some(5), None, Some(3), Some(5)])?);
+            assert!(rt; has_numbers(&taken, &[Some(5), None, Some(3), Some(5)]));
+            let whole = days.rechunk(alloc)?;
+            assert_eq!(rt; whole.chunks().len(), 1);
+            assert!(rt; has_numbers(&whole, &[Some(3), None, Some(5)]));
             return Ok(());
         }
     }

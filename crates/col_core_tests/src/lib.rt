@@ -6,6 +6,8 @@ mod chunks;
 #[cfg(test)]
 mod frames;
 #[cfg(test)]
+mod places;
+#[cfg(test)]
 mod texts;
 #[cfg(test)]
 mod types;
