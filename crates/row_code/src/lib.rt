@@ -1,0 +1,6 @@
+//! Rows as bytes, and back.
+#![tactic(auto)]
+
+mod encode;
+
+pub use encode::{encode_columns, encode_rows};
