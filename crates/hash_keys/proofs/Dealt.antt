@@ -19,13 +19,14 @@ use Rattle.hash_keys.specs.Dealt.{goes_to, dealt_front, deals_front, hash_in, sk
 pub set_pushed : (xs : List (List ℕ)) (q p : ℕ) (y t : List ℕ) → q < length xs → y ≡ get_or xs q [] ++ t
     → get_or (set xs q y) p [] ≡ get_or xs p [] ++ cond (q == p) t []
 set_pushed xs q p y t below e = elim (cases_eq p q) [
-    inl same ↦
+  | inl same ↦
       let P : ℕ → Type 0 = λ r. get_or (set xs q y) r [] ≡ get_or xs r [] ++ cond (q == r) t [] in
       let here : P q = get_or-set_same xs q y [] below ∙ e ∙ ap (λ (b : Bool). get_or xs q [] ++ cond b t []) (sym (eqb-same q)) in
       subst P (sym same) here
   | inr other ↦
       get_or-set_other xs q p y [] other
-      ∙ sym (ap (λ (b : Bool). get_or xs p [] ++ cond b t []) (ne_eqb q p (λ same. other (sym same))) ∙ append-nil (get_or xs p [])) ]
+      ∙ sym (ap (λ (b : Bool). get_or xs p [] ++ cond b t []) (ne_eqb q p (λ same. other (sym same))) ∙ append-nil (get_or xs p []))
+]
 
 pub pushed_at : {A : Type 0} (f : A → List ℕ) (lists : List A) (q p row : ℕ) (d new : A)
     → q < length lists → f new ≡ f (get_or lists q d) ++ row ∷ []
@@ -48,10 +49,11 @@ pub cleared_more : {A : Type 0} (f : A → List ℕ) (lists : List A) (i : ℕ) 
 cleared_more f lists i new below e h p under =
     let long : i < length (map f lists) = omega (arith, length-map lists f) in
     ap (λ (l : List (List ℕ)). get_or l p []) (map-set f lists i new) ∙ elim (cases_eq p i) [
-      inl same ↦
-        let P : ℕ → Type 0 = λ r. get_or (set (map f lists) i (f new)) r [] ≡ [] in
-        subst P (sym same) (get_or-set_same (map f lists) i (f new) [] long ∙ e)
-    | inr other ↦ get_or-set_other (map f lists) i p (f new) [] other ∙ h p (omega arith) ]
+      | inl same ↦
+          let P : ℕ → Type 0 = λ r. get_or (set (map f lists) i (f new)) r [] ≡ [] in
+          subst P (sym same) (get_or-set_same (map f lists) i (f new) [] long ∙ e)
+      | inr other ↦ get_or-set_other (map f lists) i p (f new) [] other ∙ h p (omega arith)
+    ]
 
 -- whether a present key, or a null one, goes to a list
 pub goes_present : (part : Key → ℕ) (nulls : Bool) (p i q : ℕ) (key : Key) (b : List ℕ) → Some b ≡ key → q ≡ part key
@@ -88,7 +90,7 @@ pub dealt_more : (part : Key → ℕ) (nulls : Bool) (keys : List Key) (i p : �
 dealt_more part nulls keys i p old new e f =
     let test : ℕ → Bool = λ j. goes_to part nulls p (key_at keys j) in
     let all : dealt_front part nulls keys (i + 1) p ≡ dealt_front part nulls keys i p ++ filter test (i ∷ []) =
-      ap (filter test) (range-more i) ∙ filter-append test (range_with_len 0 i) (i ∷ []) in
+    ap (filter test) (range-more i) ∙ filter-append test (range_with_len 0 i) (i ∷ []) in
     f ∙ ap (λ (l : List ℕ). l ++ filter test (i ∷ [])) e ∙ sym all
 
 pub sketched_more : (f : ℕ → List ℕ) (i : ℕ) (sketch old new : List ℕ)
@@ -96,7 +98,7 @@ pub sketched_more : (f : ℕ → List ℕ) (i : ℕ) (sketch old new : List ℕ)
     → new ≡ with_hashes sketch (flat_map f (range_with_len 0 (i + 1)))
 sketched_more f i sketch old new e g =
     let all : flat_map f (range_with_len 0 (i + 1)) ≡ flat_map f (range_with_len 0 i) ++ f i =
-      ap (flat_map f) (range-more i) ∙ flat_map-append f (range_with_len 0 i) (i ∷ []) ∙ ap (λ (l : List ℕ). flat_map f (range_with_len 0 i) ++ l) (append-nil (f i)) in
+    ap (flat_map f) (range-more i) ∙ flat_map-append f (range_with_len 0 i) (i ∷ []) ∙ ap (λ (l : List ℕ). flat_map f (range_with_len 0 i) ++ l) (append-nil (f i)) in
     g ∙ ap (λ (l : List ℕ). with_hashes l (f i)) e
     ∙ sym (ap (with_hashes sketch) all ∙ fold-append with_hash sketch (flat_map f (range_with_len 0 i)) (f i))
 

@@ -75,7 +75,7 @@ pub position_more : (partition start j : ℕ) (done old new : List (Option Posit
 position_more partition start j done old new x e f g =
     let at : ℕ → Position = λ r. record { chunk = partition; row = r } in
     let all : map (λ (y : Position). Some y) (positions_from partition start (j + 1)) ≡ map (λ (y : Position). Some y) (positions_from partition start j) ++ Some (at (start + j)) ∷ [] =
-      ap (map (λ (y : Position). Some y)) (map-range_with_len_more at start j (start + j) refl) ∙ map-append (λ (y : Position). Some y) (positions_from partition start j) (at (start + j) ∷ []) in
+    ap (map (λ (y : Position). Some y)) (map-range_with_len_more at start j (start + j) refl) ∙ map-append (λ (y : Position). Some y) (positions_from partition start j) (at (start + j) ∷ []) in
     g ∙ ap₂ (λ (l : List (Option Position)) (y : Option Position). l ++ y ∷ []) e f
     ∙ append_assoc old (map (λ (y : Position). Some y) (positions_from partition start j)) (Some (at (start + j)) ∷ [])
     ∙ ap (λ (l : List (Option Position)). old ++ l) (sym all)
@@ -98,7 +98,7 @@ numbered-more part count (h ∷ is) i next =
     let block = positions_from (part h) (next (part h)) (count h) in
     let rest = numbered part count is (bumped next (part h) (count h)) in
     let same : bumped next (part h) (count h) (part i) + count_in part count (part i) is ≡ next (part i) + count_in part count (part i) (h ∷ is) =
-      counted (part h == part i) (next (part i)) (count h) (count_in part count (part i) is) ∙ ap (λ (n : ℕ). next (part i) + n) (sym (count_in-cons part count (part i) h is)) in
+    counted (part h == part i) (next (part i)) (count h) (count_in part count (part i) is) ∙ ap (λ (n : ℕ). next (part i) + n) (sym (count_in-cons part count (part i) h is)) in
     ap (λ (l : List Position). block ++ l) (numbered-more part count is i (bumped next (part h) (count h)))
     ∙ sym (append_assoc block rest (positions_from (part i) (bumped next (part h) (count h) (part i) + count_in part count (part i) is) (count i)))
     ∙ ap (λ (n : ℕ). (block ++ rest) ++ positions_from (part i) n (count i)) same
@@ -117,8 +117,8 @@ gathered_more part count i start done old new s e f =
     let front = numbered part count (range_with_len 0 i) (λ _. 0) in
     let block = positions_from (part i) start (count i) in
     let all : numbered part count (range_with_len 0 (i + 1)) (λ _. 0) ≡ front ++ block =
-      ap (λ (l : List ℕ). numbered part count l (λ _. 0)) (range-more i) ∙ numbered-more part count (range_with_len 0 i) i (λ _. 0)
-      ∙ ap (λ (n : ℕ). front ++ positions_from (part i) n (count i)) (zero-add (count_in part count (part i) (range_with_len 0 i)) ∙ sym s) in
+    ap (λ (l : List ℕ). numbered part count l (λ _. 0)) (range-more i) ∙ numbered-more part count (range_with_len 0 i) i (λ _. 0)
+    ∙ ap (λ (n : ℕ). front ++ positions_from (part i) n (count i)) (zero-add (count_in part count (part i) (range_with_len 0 i)) ∙ sym s) in
     f ∙ ap (λ (l : List (Option Position)). l ++ some block) e ∙ append_assoc old (some front) (some block)
     ∙ ap (λ (l : List (Option Position)). old ++ l) (sym (ap some all ∙ map-append (λ (y : Position). Some y) front block))
 
@@ -135,26 +135,28 @@ counts_more part count next i q below e h p =
   where
     bumped_at : get_or (set next q (get_or next q 0 + count i)) p 0 ≡ get_or next p 0 + cond (q == p) (count i) 0
     bumped_at = elim (cases_eq p q) [
-        inl same ↦
+      | inl same ↦
           let P : ℕ → Type 0 = λ r. get_or (set next q (get_or next q 0 + count i)) r 0 ≡ get_or next r 0 + cond (q == r) (count i) 0 in
           subst P (sym same) (get_or-set_same next q (get_or next q 0 + count i) 0 below ∙ ap (λ (b : Bool). get_or next q 0 + cond b (count i) 0) (sym (eqb-same q)))
       | inr other ↦
           get_or-set_other next q p (get_or next q 0 + count i) 0 other
           ∙ (let e : get_or next p 0 ≡ get_or next p 0 + 0 = omega arith in e)
-          ∙ sym (ap (λ (b : Bool). get_or next p 0 + cond b (count i) 0) (ne_eqb q p (λ same. other (sym same)))) ]
+          ∙ sym (ap (λ (b : Bool). get_or next p 0 + cond b (count i) 0) (ne_eqb q p (λ same. other (sym same))))
+    ]
 
 -- what a partition gives up to a row is at most what it gives in all
 pub count_in_few : (part count : ℕ → ℕ) (p i n most : ℕ) → i < n → part i ≡ p → count_in part count p (range_with_len 0 n) < most
     → count_in part count p (range_with_len 0 i) + count i < most
 count_in_few part count p i zero most below is few = absurd (omega arith)
 count_in_few part count p i (suc n) most below is few = elim (cases_eq i n) [
-    inl same ↦
+  | inl same ↦
       let P : ℕ → Type 0 = λ r. part r ≡ p → count_in part count p (range_with_len 0 r) + count r < most in
       let here : P n = λ (e : part n ≡ p).
-        let counted : cond (part n == p) (count n) 0 ≡ count n = ap (λ (b : Bool). cond b (count n) 0) (ap (λ (x : ℕ). x == p) e ∙ eqb-same p) in
-        omega (arith, step, counted) in
+      let counted : cond (part n == p) (count n) 0 ≡ count n = ap (λ (b : Bool). cond b (count n) 0) (ap (λ (x : ℕ). x == p) e ∙ eqb-same p) in
+      omega (arith, step, counted) in
       subst P (sym same) here is
-  | inr other ↦ count_in_few part count p i n most (omega arith) is (omega (arith, step)) ]
+  | inr other ↦ count_in_few part count p i n most (omega arith) is (omega (arith, step))
+]
   where
     step : count_in part count p (range_with_len 0 (suc n)) ≡ count_in part count p (range_with_len 0 n) + cond (part n == p) (count n) 0
     step = ap (count_in part count p) (range-next n) ∙ count_in-snoc part count p (range_with_len 0 n) n
@@ -182,3 +184,7 @@ kept_on (x ∷ old) (y ∷ mid) (z ∷ new) e f =
     let front : take (length old) mid ≡ old = cc in
     let back : take (length mid) new ≡ mid = cc in
     ap₂ (λ h t. h ∷ t) heads (kept_on old mid new front back)
+
+-- what holds of keys and their state holds of the same keys
+pub same_keys : (P : PlRandomState → List Key → Type 0) (s t : PlRandomState) (ks ls : List Key) → s ≡ t → ks ≡ ls → P s ks → P t ls
+same_keys P s t ks ls e f h = subst (λ (k : List Key). P t k) f (subst (λ (r : PlRandomState). P r ks) e h)

@@ -29,7 +29,13 @@ impl RowEncodedKeys {
         ensures sketches { OnOk result (sketches.new ≡ cond BUILD_SKETCHES (sketched (partition_of self.now.state partitioner.now) (hash_of self.now.state) sketches.old self.now.keys) sketches.old) }
         ensures err { OnErr result ((n : ℕ) × (n < length self.now.keys) × (map (λ v. v.items) partition_idxs.new ≡ deals_front (partition_of self.now.state partitioner.now) partition_nulls partitioner.now.partitions self.now.keys n) × (sketches.new ≡ cond BUILD_SKETCHES (sketched_front (partition_of self.now.state partitioner.now) (hash_of self.now.state) sketches.old self.now.keys n) sketches.old)) }
     {
-        self.deal_rows(partitioner, partition_idxs, sketches, partition_nulls, BUILD_SKETCHES)
+        self.deal_rows(
+            partitioner,
+            partition_idxs,
+            sketches,
+            partition_nulls,
+            BUILD_SKETCHES,
+        )
     }
 
     /// Deals the rows one after the other.
@@ -49,7 +55,14 @@ impl RowEncodedKeys {
     {
         clear_lists(partition_idxs);
         for i in 0..self.len() {
-            self.deal_row(partitioner, i, partition_idxs, sketches, partition_nulls, build_sketches)?;
+            self.deal_row(
+                partitioner,
+                i,
+                partition_idxs,
+                sketches,
+                partition_nulls,
+                build_sketches,
+            )?;
         }
         Ok(())
     }

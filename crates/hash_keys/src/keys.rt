@@ -136,10 +136,17 @@ impl HashKeys {
         ensures ok { OnOk result (map position gather_idxs.new.items ≡ map position gather_idxs.old.items ++ map (λ x. Some x) (numbered (λ i. partition_of (state_of self.now) partitioner.now (key_at (keys_of self.now) i)) (slice_index gathers_per_key.now) (range_with_len 0 (length (keys_of self.now))) (λ _. 0))) }
         ensures err { OnErr result (gather_idxs.new.items ≡ gather_idxs.old.items) }
     {
+        let keys = self.row_encoded();
+        keys.gen_partitioned_gather_idxs(alloc, partitioner, gathers_per_key, gather_idxs)
+    }
+
+    /// The keys as the bytes of their rows.
+    fn row_encoded(&self) -> &RowEncodedKeys
+        ensures keys { result.now.keys ≡ keys_of self.now }
+        ensures state { result.now.state ≡ state_of self.now }
+    {
         match self {
-            HashKeys::RowEncoded(keys) => {
-                keys.gen_partitioned_gather_idxs(alloc, partitioner, gathers_per_key, gather_idxs)
-            }
+            HashKeys::RowEncoded(keys) => keys,
         }
     }
 }

@@ -99,16 +99,18 @@ wholes_cut : (t : DataType) (z y : ℤ) (r s : List ℕ) → IsWholeOf t z → I
     → (z ≡ y) × (r ≡ s)
 unfolding Wholes
 wholes_cut t z y r s p q e = elim (wholes t) [
-    inl signed ↦
+  | inl signed ↦
       let w : Width = width_of (physical_of t) in
       let both = numbers_cut w (cast_unsigned w z) (cast_unsigned w y) r s (of_z_fits w z (signed z p)).fits (of_z_fits w y (signed y q)).fits e in
       (sym (to_z-of_z w z (signed z p)) ∙ ap (cast_signed w) both.0 ∙ to_z-of_z w y (signed y q), both.1)
   | inr other ↦ elim other [
-      inl unsigned ↦
+    | inl unsigned ↦
         let w : Width = width_of (physical_of t) in
         let both = numbers_cut w (cast_unsigned w z) (cast_unsigned w y) r s (unsigned_below w z (unsigned z p)) (unsigned_below w y (unsigned y q)) e in
         (unsigned_same w z y (unsigned z p) (unsigned y q) both.0, both.1)
-    | inr none ↦ absurd (none z p) ] ]
+    | inr none ↦ absurd (none z p)
+  ]
+]
 
 pub apart : (t : DataType) (x y : Leaf) (r s : List ℕ) → Fits t x → IsShort x → Fits t y → IsShort y → spelling t x ++ r ≡ spelling t y ++ s → (x ≡ y) × (r ≡ s)
 apart t leaves.Null leaves.Null r s p m q n e = (refl, tails e)

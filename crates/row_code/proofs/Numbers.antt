@@ -1,9 +1,12 @@
 -- Numbers and their bytes.
-use Rattle.std.proofs.Common.{◌≡◌, ℕ, zero, suc, ◌+◌, ◌-◌, ◌*◌, ◌/◌, ◌%◌, ◌^◌, ◌<◌, ◌≤◌, List, [], ◌∷◌, ◌++◌, length, refl, sym, ap, ap₂, ◌∙◌, arith}
+use Rattle.std.proofs.Common.{◌≡◌, ℕ, zero, suc, ◌+◌, ◌-◌, ◌*◌, ◌/◌, ◌%◌, ◌^◌, ◌<◌, ◌≤◌, List, [], ◌∷◌, ◌++◌, length, take, inl, inr, refl, sym, ap, ap₂, ◌∙◌, arith}
 use Rattle.std.proofs.Math.Nat.{pow-suc, div-div-eq-div-mul}
-use mir.Val.{bits}
+use Rattle.std.specs.Prelude.{◌⊎◌, ℤ, pos, negsuc, FitsSigned}
+use Rattle.std.proofs.lemmas.Int.{ints}
+use mir.Val.{bits, hbits}
 use mir.Syntax.{w8, w16, w32, w128}
-use Rattle.std.specs.Int.{Width, w64, byte_len, byte_at, bytes_low_first, to_le_bytes}
+use Rattle.std.specs.Int.{Width, w64, byte_len, byte_at, bytes_low_first, to_le_bytes, FitsUnsigned}
+use Rattle.row_code.specs.Spelling.{whole_bytes}
 
 -- two lists that go on, of one length
 pub cut : (a b r s : List ℕ) → length a ≡ length b → a ++ r ≡ b ++ s → (a ≡ b) × (r ≡ s)

@@ -28,8 +28,8 @@ returns-then-build_sketches-clause-sketches c = λ p.
     c.insert_hash.ensures p
     ∙ ap (with_hashes (get_or c.args.sketches.now p []))
     (hash_present part (hash_of c.args.self.now.state) p c.partition-partition.result c.hash-hash.result key c.in-Some.field-0.now c.in-Some.ensures c.partition-partition.ensures.partition
-      (hash_is c.args.self.now.state key c.in-Some.field-0.now c.hash-hash.result c.in-Some.ensures c.hash-hash.ensures)
-      ∙ ap (λ (b : Bool). cond b (hash_in part (hash_of c.args.self.now.state) p key) []) (sym c.if-build_sketches.true))
+    (hash_is c.args.self.now.state key c.in-Some.field-0.now c.hash-hash.result c.in-Some.ensures c.hash-hash.ensures)
+    ∙ ap (λ (b : Bool). cond b (hash_in part (hash_of c.args.self.now.state) p key) []) (sym c.if-build_sketches.true))
 
 pub returns-in_ok-push_row-in-None-clause-lists : goal.returns-in_ok-push_row-in-None-clause-lists
 returns-in_ok-push_row-in-None-clause-lists c = λ p.
@@ -38,4 +38,4 @@ returns-in_ok-push_row-in-None-clause-lists c = λ p.
     c.in_ok-push_row-in-None.ensures.ok p
     ∙ ap (λ (t : List ℕ). get_or (map (λ (v : Vec ℕ Global). v.items) c.args.partition_idxs.now) p [] ++ t)
     (goes_null part p c.args.i c.partition-partition.result key c.in-None.ensures c.partition-partition.ensures.partition
-      ∙ ap (λ (b : Bool). cond (goes_to part b p key) (c.args.i ∷ []) []) (sym c.if-partition_nulls.true))
+    ∙ ap (λ (b : Bool). cond (goes_to part b p key) (c.args.i ∷ []) []) (sym c.if-partition_nulls.true))

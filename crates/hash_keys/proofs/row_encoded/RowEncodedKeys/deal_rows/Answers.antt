@@ -15,11 +15,11 @@ loop-i-preserved c =
     let items : Vec ℕ Global → List ℕ = λ v. v.items in
     record {
       lists = λ p below.
-        dealt_more part c.args.partition_nulls c.args.self.now.keys c.loop-i.i p (get_or (map items c.loop-i.partition_idxs) p []) (get_or (map items c.deal_row.new.partition_idxs) p [])
-        (c.loop-i.invariant.lists p below) (c.in_ok-deal_row.ensures.lists p);
+          dealt_more part c.args.partition_nulls c.args.self.now.keys c.loop-i.i p (get_or (map items c.loop-i.partition_idxs) p []) (get_or (map items c.deal_row.new.partition_idxs) p [])
+          (c.loop-i.invariant.lists p below) (c.in_ok-deal_row.ensures.lists p);
       sketches = λ p below.
-        sketched_more (λ j. cond c.args.build_sketches (hash_in part (hash_of c.args.self.now.state) p (key_at c.args.self.now.keys j)) []) c.loop-i.i (get_or c.args.sketches.now p []) (get_or c.loop-i.sketches p []) (get_or c.deal_row.new.sketches p [])
-        (c.loop-i.invariant.sketches p below) (c.in_ok-deal_row.ensures.sketches p);
+          sketched_more (λ j. cond c.args.build_sketches (hash_in part (hash_of c.args.self.now.state) p (key_at c.args.self.now.keys j)) []) c.loop-i.i (get_or c.args.sketches.now p []) (get_or c.loop-i.sketches p []) (get_or c.deal_row.new.sketches p [])
+          (c.loop-i.invariant.sketches p below) (c.in_ok-deal_row.ensures.sketches p);
     }
 
 pub returns-clause-lists : goal.returns-clause-lists

@@ -1,6 +1,0 @@
-use Rattle.std.proofs.Common.{◌≡◌, take, map}
-use Rattle.row_code.proofs.encode.encode_rows.Given as goal
-
--- the columns lent so far
-abbrev pub invariant-loop-column : goal.invariant-loop-column
-invariant-loop-column l = map (λ c. c.now) l.lent.items ≡ take l.column-index l.columns
