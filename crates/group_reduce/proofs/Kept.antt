@@ -66,6 +66,12 @@ AllZip-at_place R (x ∷ xs) [] p P Q h k f = absurd h
 AllZip-at_place R (x ∷ xs) (y ∷ ys) zero P Q h k f = f x y h.0 k
 AllZip-at_place R (x ∷ xs) (y ∷ ys) (suc p) P Q h k f = AllZip-at_place R xs ys p P Q h.1 k f
 
+-- what holds of an item at a place, and so something else
+pub weaker_place : {A : Type 0} (xs : List A) (p : ℕ) (P Q : A → Type 0) → IsSomeAnd (slice_get xs p) P → ((x : A) → P x → Q x) → IsSomeAnd (slice_get xs p) Q
+weaker_place [] p P Q h f = h
+weaker_place (x ∷ xs) zero P Q h f = f x h
+weaker_place (x ∷ xs) (suc p) P Q h f = weaker_place xs p P Q h f
+
 -- ---- a kept value at a place
 
 -- what a kept value that was found at a place stands for
