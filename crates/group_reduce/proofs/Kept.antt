@@ -1,7 +1,7 @@
 -- Lists of kept values that stand for states.
-use Rattle.std.proofs.Common.{◌≡◌, ◌≢◌, ◌==◌, ℕ, zero, suc, ◌+◌, ◌<◌, ◌≤◌, Bool, true, false, if◌then◌else◌, List, [], ◌∷◌, ◌++◌, length, take, get_or, map, replicate, slice_get, IsSomeAnd, Some, None, is_some, Result, Ok, Err, OnOk, OnErr, refl, sym, ap, subst, ◌∙◌, arith}
+use Rattle.std.proofs.Common.{◌≡◌, ◌==◌, ℕ, zero, suc, ◌+◌, ◌<◌, ◌≤◌, Bool, true, false, if◌then◌else◌, List, [], ◌∷◌, ◌++◌, length, take, get_or, map, slice_get, IsSomeAnd, Some, None, is_some, Result, Ok, Err, OnErr, refl, sym, ap, subst, ◌∙◌, arith}
 use Rattle.std.proofs.Math.ListN.{set}
-use Rattle.std.proofs.lemmas.List.{set-get_or, take_all, length-set}
+use Rattle.std.proofs.lemmas.List.{set-get_or, take_all}
 use Rattle.std.specs.List.{All, AllZip, zip}
 use Rattle.list_laws.specs.Each.{Each}
 use Rattle.list_laws.proofs.Each.{Each-from_All, All-from_Each}

@@ -1,7 +1,6 @@
 -- States of sums over texts and bytes, which all are the state of nothing.
-use Rattle.std.proofs.Common.{◌≡◌, ◌==◌, ◌+◌, ◌-◌, ◌≤◌, ◌<◌, ℕ, ℤ, pos, zero, suc, Bool, true, false, if◌then◌else◌, cond, List, [], ◌∷◌, ◌++◌, length, take, get_or, map, replicate, count_by, None, Some, refl, sym, ap, subst, ◌∙◌, arith}
+use Rattle.std.proofs.Common.{◌≡◌, ◌==◌, ◌+◌, ◌-◌, ℕ, ℤ, zero, suc, true, false, if◌then◌else◌, cond, List, [], ◌∷◌, ◌++◌, length, take, get_or, map, replicate, count_by, refl, sym, ap, ◌∙◌, arith}
 use Rattle.std.proofs.Math.ListN.{set}
-use Rattle.std.proofs.lemmas.List.{length-replicate}
 use Rattle.std.proofs.lemmas.List.Sums.{sum_by-cons}
 use Rattle.list_laws.specs.Each.{Each}
 use Rattle.col_core.specs.declared.leaf.Leaf.{Leaf}
@@ -11,7 +10,7 @@ use Rattle.col_core.specs.declared.data_type.DataType.TheVariants.{Boolean, Int8
 use Rattle.group_parts.specs.Parts.{dealt}
 use Rattle.reduce_model.specs.declared.kind.ReductionKind.TheVariants.{Sum}
 use Rattle.reduce_model.specs.Folds.{reduced_type}
-use Rattle.reduce_states.specs.States.{Entry, State, out, start, one, merge, total, after}
+use Rattle.reduce_states.specs.States.{State, out, start, one, merge, total, after}
 use Rattle.reduce_states.specs.Moves.{entered, cut_or_filled, numbered, ones, states_at}
 use Rattle.reduce_states.proofs.Merged.{IsState-start}
 use Rattle.group_reduce.specs.Nulls.{are_bytes}

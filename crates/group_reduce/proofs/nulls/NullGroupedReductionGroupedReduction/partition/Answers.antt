@@ -1,7 +1,7 @@
-use Rattle.std.proofs.Common.{◌≡◌, ◌<◌, ℕ, List, length, slice_get, slice_index_or, replicate, IsSomeAnd, sym, ap, ◌∙◌, arith}
+use Rattle.std.proofs.Common.{◌≡◌, ℕ, slice_index_or, replicate, sym, ap, ◌∙◌, arith}
 use Rattle.group_parts.specs.Parts.{dealt}
 use Rattle.reduce_model.specs.declared.kind.ReductionKind.TheVariants.{Sum}
-use Rattle.reduce_states.specs.States.{State, start}
+use Rattle.reduce_states.specs.States.{start}
 use Rattle.group_reduce.proofs.NullStates.{dealt-replicate}
 use Rattle.group_reduce.proofs.Kept.{weaker_place, same_part}
 use Rattle.group_reduce.proofs.nulls.NullGroupedReductionGroupedReduction.partition.Goals as goal
