@@ -44,5 +44,10 @@ fn bits(rt: HostRuntime) -> Result<(), Fail> {
     assert_eq!(rt; pext64_polyfill(5, u64::MAX, 64), 5);
     let all = bitmap_of(alloc, &[true, false, true])?;
     let mask = bitmap_of(alloc, &[true, true, false])?;
-    expect_bits(&rt, alloc, filter_boolean_kernel(alloc, &all, &mask)?, &[true, false])
+    expect_bits(
+        &rt,
+        alloc,
+        filter_boolean_kernel(alloc, &all, &mask)?,
+        &[true, false],
+    )
 }
