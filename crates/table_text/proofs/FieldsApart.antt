@@ -1,7 +1,8 @@
 -- Fields tell the values of a column apart.
 use Rattle.std.proofs.Common.{◌≡◌, ◌≢◌, ℕ, ℤ, pos, negsuc, suc, ◌<◌, ◌≤◌, inl, inr, ◌^◌, Bool, true, false, List, ◌∷◌, codes, drop, get_or, refl, sym, ap, ◌∙◌, subst, arith}
-use lib.Signed.{mag, ◌≤ℤ◌, ◌<ℤ◌}
+use lib.Signed.{mag}
 use Rattle.std.specs.Prelude.{◌⊎◌, nat_eq, if◌then◌else◌}
+use Rattle.std.specs.Int.{FitsUnsignedBits}
 use Rattle.std.specs.List.{starts_with}
 use Rattle.std.proofs.lemmas.Bool.{cases_Bool}
 use Rattle.std.specs.Fmt.{signed_decimal, decimal}
@@ -26,9 +27,9 @@ short_mag : (z : ℤ) → mag z < 2 ^ 127 → IsShort z
 short_mag (pos n) h = omega arith
 short_mag (negsuc n) h = omega arith
 
-short_unsigned : (z : ℤ) (end : ℕ) → end ≤ 2 ^ 64 → pos 0 ≤ℤ z → z <ℤ pos end → IsShort z
-short_unsigned (pos n) end b l h = grind (arith, h)
-short_unsigned (negsuc n) end b l h = absurd l.le
+short_unsigned : (k : ℕ) (z : ℤ) → 2 ^ k ≤ 2 ^ 64 → FitsUnsignedBits k z → IsShort z
+short_unsigned k (pos n) b h = omega (arith, b, h)
+short_unsigned k (negsuc n) b h = absurd h
 
 short : (t : DataType) (z : ℤ) → IsWholeOf t z → IsShort z
 short Int8 z h = short_mag z (omega (arith, h.sfits))
@@ -41,10 +42,10 @@ short Date z h = short_mag z (omega (arith, h.sfits))
 short Time z h = short_mag z (omega (arith, h.sfits))
 short (Datetime u) z h = short_mag z (omega (arith, h.sfits))
 short (Duration u) z h = short_mag z (omega (arith, h.sfits))
-short UInt8 z h = short_unsigned z (2 ^ 8) (omega arith) h.0 h.1
-short UInt16 z h = short_unsigned z (2 ^ 16) (omega arith) h.0 h.1
-short UInt32 z h = short_unsigned z (2 ^ 32) (omega arith) h.0 h.1
-short UInt64 z h = short_unsigned z (2 ^ 64) (omega arith) h.0 h.1
+short UInt8 z h = short_unsigned 8 z (omega arith) h
+short UInt16 z h = short_unsigned 16 z (omega arith) h
+short UInt32 z h = short_unsigned 32 z (omega arith) h
+short UInt64 z h = short_unsigned 64 z (omega arith) h
 short _ z h = absurd h
 
 decimal_apart : (m n : ℕ) → m < 10 ^ 64 → n < 10 ^ 64 → decimal m ≡ decimal n → m ≡ n
