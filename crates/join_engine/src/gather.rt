@@ -2,6 +2,7 @@
 ghost use Rattle.std.specs.Prelude.{◌≡◌, ◌<◌, ◌++◌, length, IfOk, OnOk, map};
 ghost use Rattle.std.specs.List.{All};
 ghost use Rattle.col_core.specs.Tables.{header, rows_from, values_of};
+ghost use Rattle.col_core.specs.Values.{Fits};
 ghost use Rattle.col_core.specs.Places.{IsPlaceIn};
 ghost use Rattle.join_engine.specs.Places.{AllHave, gathered, gathered_column};
 
@@ -47,9 +48,10 @@ pub fn gather(
     Ok(())
 }
 
-/// The schema of columns: their names and types.
+/// The schema of columns: their names and types, which their values fit.
 fn schema_of_columns(alloc: Global, columns: &[Series]) -> Result<Schema, AllocError>
-    ensures { IfOk result (λ s. s ≡ map header columns.now) }
+    ensures headers { IfOk result (λ s. s ≡ map header columns.now) }
+    ensures fits { IfOk result (λ _. All (λ c. All (Fits c.dtype) c.values) columns.now) }
 {
     let mut fields = Vec::new(alloc);
     for column in columns {
