@@ -5,7 +5,7 @@ use Rattle.std.proofs.Common.{inl, inr}
 use Rattle.std.proofs.lemmas.Int.{to_z-of_z, ints}
 use mir.ValLaws.{of_z_fits}
 use mir.Val.{bits}
-use Rattle.std.specs.Int.{Width, w8, w16, w32, w64, w128, to_le_bytes, cast_unsigned, cast_signed, FitsUnsigned}
+use Rattle.std.specs.Int.{Width, w8, w16, w32, w64, w128, to_le_bytes, cast_unsigned, cast_signed, FitsUnsignedBits}
 use Rattle.col_core.specs.declared.data_type.DataType.{DataType}
 use Rattle.col_core.specs.declared.data_type.DataType.TheVariants.{Boolean, Int8, Int16, Int32, Int64, UInt8, UInt16, UInt32, UInt64, Int128, Decimal, Date, Time, Datetime, Duration, String, Binary}
 use Rattle.col_core.specs.declared.leaf.Leaf.{Leaf}
@@ -20,7 +20,7 @@ use Rattle.row_code.proofs.Numbers.{cut, numbers_cut}
 -- the whole numbers of a type are the signed ones of its width, or the unsigned ones, or none
 pub Wholes : DataType → Type 0
 Wholes t = ((z : ℤ) → IsWholeOf t z → FitsSigned (width_of (physical_of t)) z)
-    ⊎ (((z : ℤ) → IsWholeOf t z → FitsUnsigned (width_of (physical_of t)) z) ⊎ ((z : ℤ) → IsWholeOf t z → ⊥))
+    ⊎ (((z : ℤ) → IsWholeOf t z → FitsUnsignedBits (bits (width_of (physical_of t))) z) ⊎ ((z : ℤ) → IsWholeOf t z → ⊥))
 
 pub wholes : (t : DataType) → Wholes t
 unfolding Wholes
@@ -85,14 +85,14 @@ truth_same false true e = absurd (omega arith)
 truth_same false false e = refl
 
 -- a number in range is below the power, and its bytes tell it
-unsigned_below : (w : Width) (z : ℤ) → FitsUnsigned w z → cast_unsigned w z < 2 ^ bits w
-unsigned_below w (pos n) p = omega (arith, ints, p.1)
-unsigned_below w (negsuc n) p = absurd (omega (arith, ints, p.0))
+unsigned_below : (w : Width) (z : ℤ) → FitsUnsignedBits (bits w) z → cast_unsigned w z < 2 ^ bits w
+unsigned_below w (pos n) p = p
+unsigned_below w (negsuc n) p = absurd p
 
-unsigned_same : (w : Width) (z y : ℤ) → FitsUnsigned w z → FitsUnsigned w y → cast_unsigned w z ≡ cast_unsigned w y → z ≡ y
+unsigned_same : (w : Width) (z y : ℤ) → FitsUnsignedBits (bits w) z → FitsUnsignedBits (bits w) y → cast_unsigned w z ≡ cast_unsigned w y → z ≡ y
 unsigned_same w (pos n) (pos m) p q e = ap pos e
-unsigned_same w (negsuc n) y p q e = absurd (omega (arith, ints, p.0))
-unsigned_same w (pos n) (negsuc m) p q e = absurd (omega (arith, ints, q.0))
+unsigned_same w (negsuc n) y p q e = absurd p
+unsigned_same w (pos n) (negsuc m) p q e = absurd q
 
 wholes_cut : (t : DataType) (z y : ℤ) (r s : List ℕ) → IsWholeOf t z → IsWholeOf t y
     → to_le_bytes (width_of (physical_of t)) (cast_unsigned (width_of (physical_of t)) z) ++ r ≡ to_le_bytes (width_of (physical_of t)) (cast_unsigned (width_of (physical_of t)) y) ++ s
