@@ -24,8 +24,8 @@ loop-column-preserved c =
     let named : field ≡ header item = rw (c.in_ok-new.ensures, c.as_str.ensures, c.name.ensures, c.dtype.ensures.dtype) refl in
     record {
       headers = c.in_ok-push.ensures.items
-        ∙ ap (λ (fs : List Field). fs ++ field ∷ []) c.loop-column.invariant.headers
-        ∙ ap (λ (f : Field). map header (take i columns) ++ f ∷ []) named
-        ∙ sym (headers_more columns i item within c.column-item.is);
+          ∙ ap (λ (fs : List Field). fs ++ field ∷ []) c.loop-column.invariant.headers
+          ∙ ap (λ (f : Field). map header (take i columns) ++ f ∷ []) named
+          ∙ sym (headers_more columns i item within c.column-item.is);
       fits = All-more AllFit columns i item within c.loop-column.invariant.fits (subst AllFit c.column-item.is one);
     }
