@@ -202,17 +202,17 @@ wider wide rows i n row row_items h is list long so_far rest =
     let left : Items = items_view (drop (i + 1) rows) in
     let as_wide : is_wide n (array (items_view row_items.now)) ≡ true = rw (item_count_of row_items.now, long) (grind (arith, nat_tests)) in (
       ap row_views (map-append now wide (row_items ∷ []))
-      ∙ map-append seen (map now wide) (row_items.now ∷ [])
-      ∙ ap (λ (ds : List Data). ds ++ seen row_items.now ∷ []) so_far
-      ∙ ap (λ (d : Data). map view (take i rows) ++ d ∷ []) (sym view_is)
-      ∙ sym (map-append view (take i rows) (row ∷ []))
-      ∙ ap (λ (v : Value). map view (take i rows ++ v ∷ [])) is
-      ∙ ap (map view) (sym (take_more rows i row h)),
+          ∙ map-append seen (map now wide) (row_items.now ∷ [])
+          ∙ ap (λ (ds : List Data). ds ++ seen row_items.now ∷ []) so_far
+          ∙ ap (λ (d : Data). map view (take i rows) ++ d ∷ []) (sym view_is)
+          ∙ sym (map-append view (take i rows) (row ∷ []))
+          ∙ ap (λ (v : Value). map view (take i rows ++ v ∷ [])) is
+          ∙ ap (map view) (sym (take_more rows i row h)),
       rest
-      ∙ ap (λ (vs : List Value). are_wide n (items_view vs)) (drop_more rows i row h)
-      ∙ ap (λ (v : Value). is_wide n (view v) && are_wide n left) (sym is)
-      ∙ ap (λ (d : Data). is_wide n d && are_wide n left) view_is
-      ∙ ap (λ (b : Bool). b && are_wide n left) as_wide,
+          ∙ ap (λ (vs : List Value). are_wide n (items_view vs)) (drop_more rows i row h)
+          ∙ ap (λ (v : Value). is_wide n (view v) && are_wide n left) (sym is)
+          ∙ ap (λ (d : Data). is_wide n d && are_wide n left) view_is
+          ∙ ap (λ (b : Bool). b && are_wide n left) as_wide,
     )
 
 -- a row that is no list, or one of another length
@@ -245,8 +245,8 @@ row_refused f ds i d values h is so_far e (inr shape) =
     let more : Option (List Leaf) → Option (List Leaf) = option_map (λ (rest : List Leaf). values ++ rest) in
     let from : Option Leaf → Option (List Leaf) = option_and_then (λ (x : Leaf). option_map (λ (xs : List Leaf). x ∷ xs) left) in
     let none : each f (items_of ds) ≡ None =
-        so_far
-        ∙ ap (λ (xs : List Data). more (each f (items_of xs))) (drop_more ds i d h)
-        ∙ ap (λ (x : Data). more (from (f x))) (sym is)
-        ∙ ap (λ (o : Option Leaf). more (from o)) shape.1 in
+    so_far
+    ∙ ap (λ (xs : List Data). more (each f (items_of xs))) (drop_more ds i d h)
+    ∙ ap (λ (x : Data). more (from (f x))) (sym is)
+    ∙ ap (λ (o : Option Leaf). more (from o)) shape.1 in
     inr (shape.0, none)

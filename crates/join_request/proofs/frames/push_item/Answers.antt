@@ -1,7 +1,5 @@
 use Rattle.std.proofs.Common.{◌≡◌, Option, Some, OnOk, IfErr, option_map, option_and_then, inr, refl, sym, ap, subst}
 use Rattle.serde_json.specs.Data.{Data}
-use Rattle.serde_json.specs.Find.{get_item}
-use Rattle.serde_json.specs.View.{view, items_view}
 use Rattle.join_request.specs.Columns.{grown}
 use Rattle.join_request.specs.Leaves.{leaf_of_value}
 use Rattle.join_request.specs.Refused.{Refuses}
