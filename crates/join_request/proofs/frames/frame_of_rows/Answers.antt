@@ -7,6 +7,8 @@ use Rattle.std.proofs.Common.{◌≡◌, ℕ, List, map, length, Some, IsSome, s
 use Rattle.std.proofs.lemmas.Result.{err_from_is_err_and}
 use Rattle.std.proofs.lemmas.List.Elements.{All-push}
 use Rattle.col_core.specs.declared.schema.Field.{Field}
+use Rattle.std.specs.List.{All}
+use Rattle.col_core.specs.Values.{Fits}
 use Rattle.col_core.specs.Tables.{Column, values_of, rows_from}
 use Rattle.join_request.specs.Json.{each}
 use Rattle.join_request.specs.Frames.{row_of_value, rows_with_columns}
@@ -35,10 +37,12 @@ loop-i-preserved c =
     let field = c.field.result.now in
     let read : each (leaf_in i field.dtype) items ≡ Some column.values = c.in_ok-read_column.ensures.ok in
     let P : Column → Type 0 = λ x. length x.values ≡ length c.args.rows.now in
+    let AllFit : Column → Type 0 = λ x. All (Fits x.dtype) x.values in
     let IsRead : ℕ → Type 0 = λ k. (f : Field) → slice_get schema k ≡ Some f → IsSome (each (leaf_in k f.dtype) items) in
     rw c.in_ok-push.ensures.items record {
       headers = headers_more columns column schema i c.loop-i.invariant.headers (c.field.ensures ∙ ap Some (sym c.in_ok-read_column.ensures.header));
       lengths = All-push P columns column c.loop-i.invariant.lengths (each_length (leaf_in i field.dtype) views column.values read ∙ views_long c.args.rows.now);
+      fits = All-push AllFit columns column c.loop-i.invariant.fits c.in_ok-read_column.ensures.fits;
       values = λ rows e. let is = column_read schema items rows i field e c.field.ensures in values_more columns column rows i (c.loop-i.invariant.values rows e) (cc (read, is));
       read = below_more IsRead i c.loop-i.invariant.read (λ f e. let same : field ≡ f = cc (e, c.field.ensures) in subst (λ (x : Field). IsSome (each (leaf_in i x.dtype) items)) same (rw read refl));
     }
