@@ -86,7 +86,8 @@ pub trait ChunkedIdxTable: Drop {
     ) -> Result<(), AllocError>
         requires few_rows { length (keys_of keys) < 2 ^ 31 }
         requires few_chunks { (seen self.old).chunks < 2 ^ 32 - 1 }
-        requires few { size_of (with_chunk track_unmatchable (seen self.old) (keys_of keys)) < 2 ^ 32 }
+        requires few { size_of (with_chunk track_unmatchable (seen self.old) (keys_of keys))
+            < 2 ^ 32 }
         requires same_state { state_of keys ≡ (seen self.old).state }
         ensures ok { OnOk result (seen self.new
             ≡ with_chunk track_unmatchable (seen self.old) (keys_of keys)) }
