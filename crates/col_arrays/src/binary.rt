@@ -197,13 +197,4 @@ impl BinaryArray {
         }
         extended
     }
-
-    /// These items, and after them `len` items of another array from a place on.
-    pub fn extended(mut self, source: &Self, start: usize, len: usize) -> Result<Self, AllocError>
-        requires { start + len ≤ length source.now }
-        ensures { IfOk result (λ all. all ≡ self ++ take len (drop start source.now)) }
-    {
-        self.extend_from_range(source, start, len)?;
-        Ok(self)
-    }
 }

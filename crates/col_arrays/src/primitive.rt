@@ -179,15 +179,6 @@ impl<T: Native> PrimitiveArray<T> {
         Ok(())
     }
 
-    /// These items, and after them `len` items of another array from a place on.
-    pub fn extended(mut self, source: &Self, start: usize, len: usize) -> Result<Self, AllocError>
-        requires { start + len ≤ length source.now }
-        ensures { IfOk result (λ all. all ≡ self ++ take len (drop start source.now)) }
-    {
-        self.extend_from_range(source, start, len)?;
-        Ok(self)
-    }
-
     /// Appends a null, under which 0 is stored. After `Err` the array is as it was.
     #[inline(always)]
     pub fn push_null(&mut self) -> Result<(), AllocError>

@@ -4,6 +4,7 @@ use Rattle.std.specs.List.{All, list_any}
 use Rattle.std.proofs.lemmas.List.Elements.{All-cons, All-nil}
 use Rattle.std.proofs.lemmas.Bool.Decides.{nat_tests}
 use Rattle.col_core.specs.declared.schema.Field.{Field}
+use Rattle.col_core.specs.Values.{Fits}
 use Rattle.col_core.specs.Tables.{Column, header, values_of, AreColumnsOf}
 use Rattle.col_core.specs.Refusals.{height_of, differ_in_height, frame_refusal}
 
@@ -22,8 +23,9 @@ not_refused : (schema : List Field) (columns : List Column) → frame_refusal sc
 not_refused schema columns h = grind arith
 
 -- named columns stand under the schema
-pub accepted : (schema : List Field) (columns others : List Column) → frame_refusal schema columns ≡ None → map header others ≡ schema → values_of others ≡ values_of columns → AreColumnsOf schema others (height_of columns)
-accepted schema columns others none headers values = record {
+pub accepted : (schema : List Field) (columns others : List Column) → frame_refusal schema columns ≡ None → map header others ≡ schema → values_of others ≡ values_of columns → All (λ c. All (Fits c.dtype) c.values) others → AreColumnsOf schema others (height_of columns)
+accepted schema columns others none headers values fits = record {
   headers = headers;
   lengths = one_height (height_of columns) others columns values (not_refused schema columns none);
+  fits = fits;
 }

@@ -1,14 +1,16 @@
 -- The items of arrays, as values.
 use Rattle.std.proofs.Common.{◌≡◌, ℕ, zero, suc, ◌+◌, ◌<◌, ℤ, Bool, true, false, not, cond, List, [], ◌∷◌, ◌++◌, map, length, take, drop, get_or, Some, None, option_and_then, slice_get, refl, sym, ap, ap₂, ◌∙◌, arith}
-use Rattle.std.specs.List.{count_by}
+use Rattle.std.specs.List.{count_by, All}
 use Rattle.std.proofs.lemmas.List.{map-append, length-map, get_or-map, take-map, drop-map}
 use Rattle.std.proofs.lemmas.Result.{on_ok_weaker, IfOk-weaker}
+use Rattle.std.proofs.lemmas.List.Elements.{All-nil, All-cons, All-head, All-tail}
 use Rattle.std.specs.Prelude.{Result, OnOk, IfOk}
 use Rattle.std.proofs.lemmas.List.Sums.{sum_by-cons}
-use Rattle.col_arrays.specs.Items.{item_of, presence, nulls}
+use Rattle.col_arrays.specs.Items.{item_of, stored, presence, nulls, AreNumbers}
+use Rattle.col_arrays.specs.Buffer.{AreBytes}
 use Rattle.col_core.specs.declared.leaf.Leaf.{Leaf}
 use Rattle.col_core.specs.declared.leaf.Leaf.TheVariants as leaves
-use Rattle.col_core.specs.Physical.{IsNumber}
+use Rattle.col_core.specs.Physical.{IsTruth, IsNumber, HasBytes}
 use Rattle.col_core.specs.Values.{value_at, is_null, item_leaf, number_leaf}
 use Rattle.col_core.specs.Tables.{values_at}
 
@@ -70,9 +72,24 @@ extended leaf items from all start len h =
     ap (map (item_leaf leaf)) h ∙ map-append (item_leaf leaf) items (take len (drop start from))
     ∙ ap (λ vs. map (item_leaf leaf) items ++ vs) (sym (ap (take len) (drop-map (item_leaf leaf) start from) ∙ take-map (item_leaf leaf) len (drop start from)))
 
-pub leaves_extended : {T E : Type 0} (r : Result (List (T × Bool)) E) (leaf : T → Leaf) (items from : List (T × Bool)) (start len : ℕ) → IfOk r (λ all. all ≡ items ++ take len (drop start from))
-    → IfOk r (λ all. map (item_leaf leaf) all ≡ map (item_leaf leaf) items ++ take len (drop start (map (item_leaf leaf) from)))
-leaves_extended r leaf items from start len h = IfOk-weaker r _ _ (λ all is. extended leaf items from all start len is) h
+pub leaves_extended : {T E : Type 0} (r : Result (Unit {0}) E) (leaf : T → Leaf) (items from all : List (T × Bool)) (start len : ℕ) → OnOk r (all ≡ items ++ take len (drop start from))
+    → OnOk r (map (item_leaf leaf) all ≡ map (item_leaf leaf) items ++ take len (drop start (map (item_leaf leaf) from)))
+leaves_extended r leaf items from all start len h = on_ok_weaker r (λ is. extended leaf items from all start len is) h
+
+-- the values of items can be kept where what is stored can
+items_kept : {T : Type 0} (P : T → Type 0) (K : Leaf → Type 0) (leaf : T → Leaf) → K leaves.Null → ((x : T) → P x → K (leaf x)) → (items : List (T × Bool)) → All P (stored items) → All K (map (item_leaf leaf) items)
+items_kept P K leaf null holds [] all = All-nil K
+items_kept P K leaf null holds ((x, true) ∷ items) all = All-cons K (leaf x) (map (item_leaf leaf) items) (holds x (All-head P x (stored items) all)) (items_kept P K leaf null holds items (All-tail P x (stored items) all))
+items_kept P K leaf null holds ((x, false) ∷ items) all = All-cons K leaves.Null (map (item_leaf leaf) items) null (items_kept P K leaf null holds items (All-tail P x (stored items) all))
+
+pub truths_kept : (items : List (Bool × Bool)) → All IsTruth (map (item_leaf (λ b. leaves.Bool b)) items)
+truths_kept items = items_kept (λ (b : Bool). Unit {0}) IsTruth (λ b. leaves.Bool b) tt (λ b h. tt) items (λ k d l. tt)
+
+pub numbers_kept : {T : Type 0} (whole : T → ℤ) (Holds : ℤ → Type 0) (items : List (T × Bool)) → AreNumbers whole Holds (stored items) → All (IsNumber Holds) (map (number_leaf whole) items)
+numbers_kept {T = T} whole Holds items all = items_kept (λ (x : T). Holds (whole x)) (IsNumber Holds) (λ x. leaves.Whole (whole x)) tt (λ x h. h) items all
+
+pub bytes_kept : (items : List (List ℕ × Bool)) → All AreBytes (stored items) → All HasBytes (map (item_leaf (λ b. leaves.Bytes b)) items)
+bytes_kept items all = items_kept AreBytes HasBytes (λ b. leaves.Bytes b) tt (λ b h. h) items all
 
 -- the values of items at places
 at_places : {T : Type 0} (leaf : T → Leaf) (items taken : List (T × Bool)) (places : List ℕ) → map Some taken ≡ map (slice_get items) places → map (item_leaf leaf) taken ≡ values_at (map (item_leaf leaf) items) places

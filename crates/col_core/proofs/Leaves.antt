@@ -2,10 +2,10 @@
 use Rattle.std.proofs.Common.{◌≡◌, ℕ, zero, suc, ◌+◌, ◌-◌, ◌<◌, ◌≤◌, ◌^◌, min, not, cond, ◌||◌, List, [], ◌∷◌, ◌++◌, length, take, drop, get_or, refl, sym, ap, ◌∙◌, subst, arith}
 use Rattle.std.specs.List.{All, count_by, list_any}
 use Rattle.std.proofs.lemmas.List.{drop_more, append-nil, length-append, get_or_append_left, get_or-append_right}
-use Rattle.std.proofs.lemmas.List.Elements.{All-append, All-get_or, All-cons, All-nil, All-map, All-weaker}
+use Rattle.std.proofs.lemmas.List.Elements.{All-append, All-get_or, All-cons, All-nil, All-map, All-weaker, All-take, All-drop}
 use Rattle.std.proofs.lemmas.List.Folds.{list_any-append}
 use Rattle.std.proofs.lemmas.List.Sums.{sum_by-append, count_by-le-length}
-use Rattle.std.proofs.lemmas.Str.{IsUtf8-from_is_utf8, is_utf8-from_IsUtf8}
+use Rattle.std.proofs.lemmas.Str.{IsUtf8-from_is_utf8}
 use Rattle.col_core.specs.declared.chunk.Chunk.{Chunk}
 use Rattle.col_core.specs.declared.leaf.Leaf.{Leaf}
 use Rattle.col_core.specs.declared.leaf.Leaf.TheVariants as leaves
@@ -27,9 +27,6 @@ fits_kept t v h = grind arith
 pub kept_fits : (t : DataType) (v : Leaf) → IsKept (physical_of t) v → IsText t v → Fits t v
 kept_fits t v h x = grind (arith, IsUtf8-from_is_utf8)
 
-pub text_from : (t : DataType) (v : Leaf) → Fits t v → IsText t v
-text_from t v h = grind (arith, is_utf8-from_IsUtf8)
-
 -- where a place lies: in the chunk at hand, or past it
 pub leaf_here : (cs : List Chunk) (i : ℕ) (c : Chunk) (r : ℕ) → i < length cs → c ≡ get_or cs i c → r < length (chunk_leaves c) → value_at (leaves_of (drop i cs)) r ≡ value_at (chunk_leaves c) r
 leaf_here cs i c r h e k = ap (λ xs. value_at xs r) (leaves_step cs i c h e) ∙ get_or_append_left (chunk_leaves c) (leaves_of (drop (i + 1) cs)) leaves.Null r k
@@ -40,8 +37,8 @@ leaf_past cs i c r h e k = ap (λ xs. value_at xs r) (leaves_step cs i c h e) �
 pub kind_here : (t : DataType) (cs : List Chunk) (i : ℕ) (c : Chunk) → AreChunksOf t cs → i < length cs → c ≡ get_or cs i c → IsOfKind t c
 kind_here t cs i c h l e = subst (IsOfKind t) (sym e) (All-get_or (IsOfKind t) cs i c l h.kinds)
 
-pub text_here : (t : DataType) (cs : List Chunk) (i : ℕ) → AreChunksOf t cs → i < length (leaves_of cs) → IsText t (value_at (leaves_of cs) i)
-text_here t cs i h l = All-get_or (IsText t) (leaves_of cs) i leaves.Null l h.texts
+pub fits_here : (t : DataType) (cs : List Chunk) (i : ℕ) → AreChunksOf t cs → i < length (leaves_of cs) → Fits t (value_at (leaves_of cs) i)
+fits_here t cs i h l = All-get_or (Fits t) (leaves_of cs) i leaves.Null l h.fits
 
 minus_none : (n : ℕ) → n - 0 ≡ n
 minus_none n = omega arith
@@ -73,26 +70,33 @@ pub joined_more : (cs : List Chunk) (i : ℕ) (c : Chunk) (skip rest skipped cou
 joined_more cs i c skip rest skipped count h e s n = ap (λ vs. take rest (drop skip vs)) (leaves_step cs i c h e) ∙ joined (chunk_leaves c) (leaves_of (drop (i + 1) cs)) skip rest skipped count s n
 
 -- columns of one chunk
-pub one_chunk : (t : DataType) (c : Chunk) → IsOfKind t c → All (IsText t) (chunk_leaves c) → length (chunk_leaves c) < 2 ^ 64 → AreChunksOf t (c ∷ [])
-one_chunk t c kind texts small = record {
+pub one_chunk : (t : DataType) (c : Chunk) → IsOfKind t c → All (Fits t) (chunk_leaves c) → length (chunk_leaves c) < 2 ^ 64 → AreChunksOf t (c ∷ [])
+one_chunk t c kind fits small = record {
   kinds = All-cons (IsOfKind t) c [] kind (All-nil (IsOfKind t));
-  texts = subst (All (IsText t)) (sym (append-nil (chunk_leaves c))) texts;
+  fits = subst (All (Fits t)) (sym (append-nil (chunk_leaves c))) fits;
   small = subst (λ (xs : List Leaf). length xs < 2 ^ 64) (sym (append-nil (chunk_leaves c))) small;
 }
 
 pub leaves_of_one : (c : Chunk) → leaves_of (c ∷ []) ≡ chunk_leaves c
 leaves_of_one c = append-nil (chunk_leaves c)
 
--- values at places of a column are texts where its values are
-pub texts_taken : (t : DataType) (values : List Leaf) (places : List ℕ) → All (IsText t) values → All (λ i. i < length values) places → All (IsText t) (values_at values places)
-texts_taken t values places all inside = All-map (IsText t) (value_at values) places (All-weaker (λ (i : ℕ). i < length values) (λ (i : ℕ). IsText t (value_at values i)) (λ i h. All-get_or (IsText t) values i leaves.Null h all) places inside)
+-- values at places of a column fit where its values do
+pub fits_taken : (t : DataType) (values : List Leaf) (places : List ℕ) → All (Fits t) values → All (λ i. i < length values) places → All (Fits t) (values_at values places)
+fits_taken t values places all inside = All-map (Fits t) (value_at values) places (All-weaker (λ (i : ℕ). i < length values) (λ (i : ℕ). Fits t (value_at values i)) (λ i h. All-get_or (Fits t) values i leaves.Null h all) places inside)
+
+pub fits_in_range : (t : DataType) (values : List Leaf) (start len : ℕ) → All (Fits t) values → All (Fits t) (take len (drop start values))
+fits_in_range t values start len all = All-take (Fits t) len (drop start values) (All-drop (Fits t) start values all)
+
+-- a column that grows by values
+pub built_more : (t : DataType) (c d : Chunk) (vs : List Leaf) → IsBuilt t c → chunk_physical d ≡ chunk_physical c → chunk_leaves d ≡ chunk_leaves c ++ vs → All (Fits t) vs → IsBuilt t d
+built_more t c d vs h s e all = record {
+  kind = h.kind ∙ sym s;
+  fits = subst (All (Fits t)) (sym e) (All-append (Fits t) (chunk_leaves c) vs h.fits all);
+}
 
 -- a column that grows by a value
-pub built_push : (t : DataType) (c d : Chunk) (v : Leaf) → IsBuilt t c → chunk_physical d ≡ chunk_physical c → chunk_leaves d ≡ chunk_leaves c ++ v ∷ [] → IsText t v → IsBuilt t d
-built_push t c d v h s e x = record {
-  kind = h.kind ∙ sym s;
-  texts = subst (All (IsText t)) (sym e) (All-append (IsText t) (chunk_leaves c) (v ∷ []) h.texts (All-cons (IsText t) v [] x (All-nil (IsText t))));
-}
+pub built_push : (t : DataType) (c d : Chunk) (v : Leaf) → IsBuilt t c → chunk_physical d ≡ chunk_physical c → chunk_leaves d ≡ chunk_leaves c ++ v ∷ [] → Fits t v → IsBuilt t d
+built_push t c d v h s e x = built_more t c d (v ∷ []) h s e (All-cons (Fits t) v [] x (All-nil (Fits t)))
 
 -- from a chunk on, one chunk further
 pub null_step : (cs : List Chunk) (i : ℕ) (c : Chunk) → i < length cs → c ≡ get_or cs i c → count_by is_null (leaves_of (drop i cs)) ≡ count_by is_null (chunk_leaves c) + count_by is_null (leaves_of (drop (i + 1) cs))
@@ -113,15 +117,15 @@ whole_range xs n e = rw e (whole xs)
     whole [] = refl
     whole (y ∷ ys) = ap (λ vs. y ∷ vs) (whole ys)
 
-pub ruleset steps = (length_step, leaf_here, leaf_past, kind_here, text_here)
+pub ruleset steps = (length_step, leaf_here, leaf_past, kind_here, fits_here)
 
 pub ruleset joins = (joined_more)
 
-pub ruleset ones = (one_chunk, leaves_of_one, texts_taken)
+pub ruleset ones = (one_chunk, leaves_of_one, fits_taken)
 
-pub ruleset grows = (fits_kept, text_from, built_push)
+pub ruleset grows = (fits_kept, built_push, built_more)
 
-pub ruleset fits = (kept_fits)
+pub ruleset runs = (leaves_of_one, fits_in_range, whole_range)
 
 pub ruleset looks = (All-get_or)
 

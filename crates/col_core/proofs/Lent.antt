@@ -1,6 +1,5 @@
 -- Lent values and what they lend.
-use Rattle.std.proofs.Common.{◌≡◌, ℤ, Bool, List, ℕ, refl, ap}
-use Rattle.col_core.specs.declared.leaf.Leaf.{Leaf}
+use Rattle.std.proofs.Common.{◌≡◌, ℤ, refl, ap}
 use Rattle.col_core.specs.declared.leaf.Leaf.TheVariants as leaves
 use Rattle.col_core.specs.declared.leaf.LeafRef.{LeafRef}
 use Rattle.col_core.specs.declared.leaf.LeafRef.TheVariants as lents

@@ -3,6 +3,7 @@ pub mod Ranges
 pub mod ItemLeaves
 pub mod Texts
 pub mod Leaves
+pub mod Accepted
 pub mod Lent
 pub mod Rows
 pub mod Places

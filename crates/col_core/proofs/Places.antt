@@ -1,16 +1,16 @@
 -- Values at places.
-use Rattle.std.proofs.Common.{◌≡◌, ◌<◌, ◌∙◌, ℕ, zero, suc, List, [], ◌∷◌, ◌++◌, map, length, get_or, slice_get, Option, Some, None, refl, sym, ap, subst, arith}
+use Rattle.std.proofs.Common.{◌≡◌, ◌<◌, ◌∙◌, ℕ, zero, suc, List, [], ◌∷◌, map, length, get_or, slice_get, Option, Some, None, refl, sym, ap, subst, arith}
 use Rattle.std.specs.List.{All}
 use Rattle.std.proofs.lemmas.List.{length-map, get_or-map}
-use Rattle.std.proofs.lemmas.List.Elements.{All-push, All-get_or, All-map, All-weaker}
+use Rattle.std.proofs.lemmas.List.Elements.{All-get_or, All-map, All-weaker}
 use Rattle.col_core.specs.declared.leaf.Leaf.{Leaf}
 use Rattle.col_core.specs.declared.leaf.Leaf.TheVariants as leaves
 use Rattle.col_core.specs.declared.data_type.DataType.{DataType}
 use Rattle.col_core.specs.declared.schema.Field.{Field}
 use Rattle.col_core.specs.declared.row_place.RowPlace.{RowPlace}
-use Rattle.col_core.specs.Values.{value_at, IsText}
+use Rattle.col_core.specs.Values.{value_at, Fits}
 use Rattle.col_core.specs.Tables.{Row, Table, Column, column_of, header}
-use Rattle.col_core.specs.Places.{IsPlace, IsPlaceIn, IsWithin, placed_value, picked, type_at, no_table}
+use Rattle.col_core.specs.Places.{IsPlaceIn, IsWithin, placed_value, picked, type_at, no_table}
 use Rattle.col_core.specs.declared.chunk.Chunk.{Chunk}
 use Rattle.col_core.specs.Physical.{physical_of}
 use Rattle.col_core.specs.Tables.{IsOfKind, chunk_physical}
@@ -46,13 +46,13 @@ list_within [] i j h = absurd (omega arith)
 list_within (x ∷ lists) zero j h = omega arith
 list_within (x ∷ lists) (suc i) j h = let on = list_within lists i j h in omega arith
 
--- texts at places
-text_picked : (t : DataType) (lists : List (List Leaf)) (place : Option RowPlace) → All (λ values. All (IsText t) values) lists → IsWithin lists place → IsText t (picked lists place)
-text_picked t lists None all h = refl
-text_picked t lists (Some p) all h = All-get_or (IsText t) (get_or lists p.frame []) p.row leaves.Null h (all p.frame [] (list_within lists p.frame p.row h))
+-- values at places fit
+fit_picked : (t : DataType) (lists : List (List Leaf)) (place : Option RowPlace) → All (λ values. All (Fits t) values) lists → IsWithin lists place → Fits t (picked lists place)
+fit_picked t lists None all h = tt
+fit_picked t lists (Some p) all h = All-get_or (Fits t) (get_or lists p.frame []) p.row leaves.Null h (all p.frame [] (list_within lists p.frame p.row h))
 
-pub texts_picked : (t : DataType) (lists : List (List Leaf)) (places : List (Option RowPlace)) → All (λ values. All (IsText t) values) lists → All (IsWithin lists) places → All (IsText t) (map (picked lists) places)
-texts_picked t lists places all inside = All-map (IsText t) (picked lists) places (All-weaker (IsWithin lists) (λ (p : Option RowPlace). IsText t (picked lists p)) (λ p h. text_picked t lists p all h) places inside)
+pub fits_picked : (t : DataType) (lists : List (List Leaf)) (places : List (Option RowPlace)) → All (λ values. All (Fits t) values) lists → All (IsWithin lists) places → All (Fits t) (map (picked lists) places)
+fits_picked t lists places all inside = All-map (Fits t) (picked lists) places (All-weaker (IsWithin lists) (λ (p : Option RowPlace). Fits t (picked lists p)) (λ p h. fit_picked t lists p all h) places inside)
 
 -- the type of a column is that of its field
 pub type_of_column : (schema : List Field) (i : ℕ) (c : Column) (t : DataType) → slice_get schema i ≡ Some (header c) → type_at schema i ≡ Some t → c.dtype ≡ t
@@ -75,10 +75,10 @@ pub gathered_are : (frames : List Table) (column : ℕ) (places : List (Option R
     → values ≡ map (picked lists) places → values ≡ map (placed_value frames column) places
 gathered_are frames column places lists values inside e h = h ∙ ap (λ (ls : List (List Leaf)). map (picked ls) places) e ∙ all_placed frames column places inside
 
-pub gathered_texts : (t : DataType) (frames : List Table) (column : ℕ) (places : List (Option RowPlace)) (lists : List (List Leaf)) (values : List Leaf) → All (IsPlaceIn frames) places → lists ≡ map (λ f. column_of column f.rows) frames
-    → values ≡ map (picked lists) places → All (λ vs. All (IsText t) vs) lists → All (IsText t) values
-gathered_texts t frames column places lists values inside e h texts =
-    subst (All (IsText t)) (sym h) (texts_picked t lists places texts (subst (λ (ls : List (List Leaf)). All (IsWithin ls) places) (sym e) (places_within frames column places inside)))
+pub gathered_fits : (t : DataType) (frames : List Table) (column : ℕ) (places : List (Option RowPlace)) (lists : List (List Leaf)) (values : List Leaf) → All (IsPlaceIn frames) places → lists ≡ map (λ f. column_of column f.rows) frames
+    → values ≡ map (picked lists) places → All (λ vs. All (Fits t) vs) lists → All (Fits t) values
+gathered_fits t frames column places lists values inside e h fits =
+    subst (All (Fits t)) (sym h) (fits_picked t lists places fits (subst (λ (ls : List (List Leaf)). All (IsWithin ls) places) (sym e) (places_within frames column places inside)))
 
 pub ruleset placing = (places_within, type_of_column, within_schema)
 

@@ -3,13 +3,14 @@ use Rattle.std.proofs.Common.{◌≡◌, ◌++◌, ℕ, zero, suc, ◌+◌, ◌<
 use Rattle.std.specs.List.{All, range_with_len}
 use Rattle.std.proofs.lemmas.List.{drop_more, take_more, map-append, length-map, get_or-map}
 use Rattle.std.proofs.lemmas.List.FromFn.{length-map-range_with_len, get_or-map-range_with_len, fill_by_all}
-use Rattle.std.proofs.lemmas.List.Elements.{All-nil, All-cons, All-get_or, All-weaker, All-map}
+use Rattle.std.proofs.lemmas.List.Elements.{All-nil, All-cons, All-get_or, All-weaker, All-map, All-head, All-tail}
 use mathlib.Core.List.{map-map}
 use Rattle.col_core.specs.declared.leaf.Leaf.{Leaf}
 use Rattle.col_core.specs.declared.leaf.Leaf.TheVariants as leaves
 use Rattle.col_core.specs.declared.schema.Field.{Field}
-use Rattle.col_core.specs.Values.{value_at}
-use Rattle.col_core.specs.Tables.{Row, row_at, rows_from, values_at, rows_at, column_of, Column, values_of, header, AreColumnsOf, taken, AreWide, Table, field_at}
+use Rattle.col_core.specs.Values.{value_at, Fits}
+use Rattle.col_core.specs.Tables.{Row, row_at, rows_from, values_at, rows_at, column_of, Column, values_of, header, AreColumnsOf, taken, AreWide, FitsSchema, Table, field_at}
+use Rattle.col_core.proofs.Leaves.{fits_taken}
 
 -- a map agrees where its function does
 pub map_agree : {A B : Type 0} (f g : A → B) → ((a : A) → f a ≡ g a) → (xs : List A) → map f xs ≡ map g xs
@@ -84,6 +85,9 @@ pub under_taken : (schema : List Field) (columns : List Column) (n : ℕ) (place
 under_taken schema columns n places under inside = record {
   headers = map-map header (taken places) columns ∙ under.headers;
   lengths = All-map (λ (c : Column). length c.values ≡ length places) (taken places) columns (All-weaker (λ (c : Column). length c.values ≡ n) _ (λ c h. length-map places (value_at c.values)) columns under.lengths);
+  fits = All-map (λ (c : Column). All (Fits c.dtype) c.values) (taken places) columns (λ k d l.
+      let c = get_or columns k d in
+      fits_taken c.dtype c.values places (under.fits k d l) (subst (λ (m : ℕ). All (λ i. i < m) places) (sym (under.lengths k d l)) inside));
 }
 
 -- each row of columns has a value for each field
@@ -93,15 +97,30 @@ wide schema columns n e k d h =
     ap length (get_or-map-range_with_len (row_at (values_of columns)) 0 n k k d short (zero-add k))
     ∙ length-map (values_of columns) (λ values. value_at values k) ∙ length-map columns (λ (c : Column). c.values) ∙ sym (length-map columns header) ∙ ap length e
 
+-- a row of columns fits their fields
+row_fits : (columns : List Column) (k : ℕ) → All (λ (c : Column). k < length c.values) columns → All (λ (c : Column). All (Fits c.dtype) c.values) columns → FitsSchema (map header columns) (row_at (values_of columns) k)
+row_fits [] k inside fits = tt
+row_fits (c ∷ cs) k inside fits =
+    let Inside : Column → Type 0 = λ x. k < length x.values in
+    let AllFit : Column → Type 0 = λ x. All (Fits x.dtype) x.values in
+    (All-head AllFit c cs fits k leaves.Null (All-head Inside c cs inside), row_fits cs k (All-tail Inside c cs inside) (All-tail AllFit c cs fits))
+
+pub rows_fit : (schema : List Field) (columns : List Column) (n : ℕ) → AreColumnsOf schema columns n → All (FitsSchema schema) (rows_from n (values_of columns))
+rows_fit schema columns n under k d h =
+    let short : k < n = subst (λ (m : ℕ). k < m) (length-rows n (values_of columns)) h in
+    subst (FitsSchema schema) (sym (get_or-map-range_with_len (row_at (values_of columns)) 0 n k k d short (zero-add k)))
+    (subst (λ (s : List Field). FitsSchema s (row_at (values_of columns) k)) under.headers (row_fits columns k (λ j e l. subst (λ (m : ℕ). k < m) (sym (under.lengths j e l)) short) under.fits))
+
 -- some columns of a table stand under their fields, and have its rows cut to them
 pub under_selected : (t : Table) (places : List ℕ) (columns : List Column) → map header columns ≡ map (field_at t.schema) places → values_of columns ≡ map (λ i. column_of i t.rows) places
-    → AreColumnsOf (map (field_at t.schema) places) columns (length t.rows)
-under_selected t places columns h v = record {
+    → All (λ c. All (Fits c.dtype) c.values) columns → AreColumnsOf (map (field_at t.schema) places) columns (length t.rows)
+under_selected t places columns h v f = record {
   headers = h;
   lengths = λ k d l. sym (ap length (get_or-map (λ (c : Column). c.values) columns k d [] l))
       ∙ ap (λ (vs : List (List Leaf)). length (get_or vs k [])) v
       ∙ ap length (get_or-map (λ (i : ℕ). column_of i t.rows) places k 0 [] (as_long k l))
       ∙ length-map t.rows (λ row. value_at row (get_or places k 0));
+  fits = f;
 }
   where
     as_long : (k : ℕ) → k < length columns → k < length places

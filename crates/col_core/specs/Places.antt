@@ -1,5 +1,5 @@
 -- Rows of several frames by their places.
-use Rattle.std.specs.Prelude.{◌≡◌, ◌<◌, ℕ, List, [], map, length, Option, Some, None, slice_index_or, slice_get}
+use Rattle.std.specs.Prelude.{◌<◌, ℕ, List, [], length, Option, Some, None, slice_index_or, slice_get}
 use Rattle.std.specs.Option.{option_map}
 use Rattle.col_core.specs.declared.leaf.Leaf.{Leaf}
 use Rattle.col_core.specs.declared.leaf.Leaf.TheVariants as leaves
@@ -7,7 +7,7 @@ use Rattle.col_core.specs.declared.data_type.DataType.{DataType}
 use Rattle.col_core.specs.declared.schema.Field.{Field}
 use Rattle.col_core.specs.declared.row_place.RowPlace.{RowPlace}
 use Rattle.col_core.specs.Values.{value_at}
-use Rattle.col_core.specs.Tables.{Row, Table, Column}
+use Rattle.col_core.specs.Tables.{Row, Table}
 
 -- a frame without rows, which stands for none
 abbrev pub no_table : Table

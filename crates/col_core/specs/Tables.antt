@@ -10,8 +10,8 @@ use Rattle.col_core.specs.declared.chunk.Chunk.TheVariants as chunks
 use Rattle.col_core.specs.declared.data_type.PhysicalType.{PhysicalType}
 use Rattle.col_core.specs.declared.data_type.PhysicalType.TheVariants as kept
 use Rattle.col_core.specs.declared.leaf.Leaf.TheVariants as leaves
-use Rattle.col_core.specs.Physical.{physical_of, physical_eq}
-use Rattle.col_core.specs.Values.{value_at, Fits, IsText, item_leaf, number_leaf}
+use Rattle.col_core.specs.Physical.{physical_of, physical_eq, IsKept}
+use Rattle.col_core.specs.Values.{value_at, Fits, item_leaf, number_leaf}
 
 -- a column: its name, its type and its values
 pub record Column : Type 0 where
@@ -63,16 +63,20 @@ is_of_kind t c = physical_eq (physical_of t) (chunk_physical c)
 abbrev pub IsOfKind : DataType → Chunk → Type 0
 IsOfKind t c = physical_of t ≡ chunk_physical c
 
+-- each value of a chunk is one of those that are kept so
+abbrev pub IsWellKept : Chunk → Type 0
+IsWellKept c = All (IsKept (chunk_physical c)) (chunk_leaves c)
+
 -- what holds of a column's type and chunks
 pub record AreChunksOf (dtype : DataType) (all : List Chunk) : Type 0 where
   pub kinds : All (IsOfKind dtype) all
-  pub texts : All (IsText dtype) (leaves_of all)
+  pub fits : All (Fits dtype) (leaves_of all)
   pub small : length (leaves_of all) < 2 ^ 64
 
 -- what holds of a column that is being built
 pub record IsBuilt (dtype : DataType) (chunk : Chunk) : Type 0 where
   pub kind : IsOfKind dtype chunk
-  pub texts : All (IsText dtype) (chunk_leaves chunk)
+  pub fits : All (Fits dtype) (chunk_leaves chunk)
 
 -- the header of a column
 abbrev pub header : Column → Field
@@ -133,6 +137,7 @@ selected places t = record { schema = map (field_at t.schema) places; rows = map
 pub record AreColumnsOf (schema : List Field) (columns : List Column) (height : ℕ) : Type 0 where
   pub headers : map header columns ≡ schema
   pub lengths : All (λ c. length c.values ≡ height) columns
+  pub fits : All (λ c. All (Fits c.dtype) c.values) columns
 
 -- a row has one value for each field, and each value fits its field
 abbrev pub FitsSchema : List Field → Row → Type 0

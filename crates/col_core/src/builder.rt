@@ -1,5 +1,5 @@
 //! Columns that grow.
-ghost use Rattle.std.specs.Prelude.{◌≡◌, ◌<◌, [], ◌∷◌, ◌++◌, length, OnOk, OnErr, IfOk};
+ghost use Rattle.std.specs.Prelude.{◌≡◌, ◌<◌, ◌≤◌, ◌+◌, [], ◌∷◌, ◌++◌, length, take, drop, OnOk, OnErr, IfOk};
 ghost use Rattle.col_core.specs.Lent.{lent_leaf};
 ghost use Rattle.col_core.specs.Tables.{Column, Growing};
 ghost use Rattle.col_core.specs.Values.{value_at, Fits};
@@ -87,6 +87,24 @@ impl ColumnBuilder {
     {
         let (chunk, place) = source.chunk_at(i);
         self.chunk.push_from(chunk, place)?;
+        Ok(())
+    }
+
+    /// Appends `len` values of a column of the same type, from `start` on. After `Err` the column is
+    /// as it was.
+    #[tactic(auto, using(crate::proofs::Leaves::grows))]
+    pub fn extend_from_range(
+        &mut self,
+        source: &Series,
+        start: usize,
+        len: usize,
+    ) -> Result<(), AllocError>
+        requires same_type { source.now.dtype ≡ self.old.dtype }
+        requires in_bounds { start + len ≤ length source.now.values }
+        ensures ok { OnOk result (self.new ≡ record { dtype = self.old.dtype; values = self.old.values ++ take len (drop start source.now.values) }) }
+        ensures err { OnErr result (self.new ≡ self.old) }
+    {
+        source.append_range(&mut self.chunk, start, len)?;
         Ok(())
     }
 

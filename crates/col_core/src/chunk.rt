@@ -135,9 +135,10 @@ impl Chunk {
         dtype.physical() == self.physical()
     }
 
-    /// The number of items, nulls among them.
+    /// The number of items, nulls among them. Each is kept as the physical type tells.
     pub fn len(&self) -> usize
-        ensures { result ≡ length (chunk_leaves self.now) }
+        ensures len { result ≡ length (chunk_leaves self.now) }
+        ensures kept { All (IsKept (chunk_physical self.now)) (chunk_leaves self.now) }
     {
         with_array!(self, items => items.count())
     }
@@ -223,69 +224,36 @@ impl Chunk {
         map_array!(self, items => items.take_items(alloc, idxs))
     }
 
-    /// The values, and after them `len` values of a chunk of the same physical type, from `start` on.
-    pub fn extended(self, source: &Chunk, start: usize, len: usize) -> Result<Chunk, AllocError>
-        requires same_kind { chunk_physical source.now ≡ chunk_physical self }
+    /// Appends `len` values of a chunk of the same physical type, from `start` on. After `Err` the
+    /// values are as they were.
+    pub fn extend_from_range(
+        &mut self,
+        source: &Chunk,
+        start: usize,
+        len: usize,
+    ) -> Result<(), AllocError>
+        requires same_kind { chunk_physical source.now ≡ chunk_physical self.old }
         requires in_bounds { start + len ≤ length (chunk_leaves source.now) }
-        ensures values { IfOk result (λ all. chunk_leaves all ≡ chunk_leaves self ++ take len (drop start (chunk_leaves source.now))) }
-        ensures kind { IfOk result (λ all. chunk_physical all ≡ chunk_physical self) }
+        ensures ok { OnOk result (chunk_leaves self.new ≡ chunk_leaves self.old ++ take len (drop start (chunk_leaves source.now))) }
+        ensures err { OnErr result (self.new ≡ self.old) }
+        ensures kind { chunk_physical self.new ≡ chunk_physical self.old }
     {
         match self {
-            Chunk::Boolean(items) => Ok(Chunk::Boolean(items.extend_items(
-                array_of!(source, Chunk::Boolean),
-                start,
-                len,
-            )?)),
-            Chunk::I8(items) => Ok(Chunk::I8(items.extend_items(
-                array_of!(source, Chunk::I8),
-                start,
-                len,
-            )?)),
-            Chunk::I16(items) => Ok(Chunk::I16(items.extend_items(
-                array_of!(source, Chunk::I16),
-                start,
-                len,
-            )?)),
-            Chunk::I32(items) => Ok(Chunk::I32(items.extend_items(
-                array_of!(source, Chunk::I32),
-                start,
-                len,
-            )?)),
-            Chunk::I64(items) => Ok(Chunk::I64(items.extend_items(
-                array_of!(source, Chunk::I64),
-                start,
-                len,
-            )?)),
-            Chunk::I128(items) => Ok(Chunk::I128(items.extend_items(
-                array_of!(source, Chunk::I128),
-                start,
-                len,
-            )?)),
-            Chunk::U8(items) => Ok(Chunk::U8(items.extend_items(
-                array_of!(source, Chunk::U8),
-                start,
-                len,
-            )?)),
-            Chunk::U16(items) => Ok(Chunk::U16(items.extend_items(
-                array_of!(source, Chunk::U16),
-                start,
-                len,
-            )?)),
-            Chunk::U32(items) => Ok(Chunk::U32(items.extend_items(
-                array_of!(source, Chunk::U32),
-                start,
-                len,
-            )?)),
-            Chunk::U64(items) => Ok(Chunk::U64(items.extend_items(
-                array_of!(source, Chunk::U64),
-                start,
-                len,
-            )?)),
-            Chunk::Bytes(items) => Ok(Chunk::Bytes(items.extend_items(
-                array_of!(source, Chunk::Bytes),
-                start,
-                len,
-            )?)),
+            Chunk::Boolean(items) => {
+                items.extend_items(array_of!(source, Chunk::Boolean), start, len)
+            }
+            Chunk::I8(items) => { items.extend_items(array_of!(source, Chunk::I8), start, len) }
+            Chunk::I16(items) => { items.extend_items(array_of!(source, Chunk::I16), start, len) }
+            Chunk::I32(items) => { items.extend_items(array_of!(source, Chunk::I32), start, len) }
+            Chunk::I64(items) => { items.extend_items(array_of!(source, Chunk::I64), start, len) }
+            Chunk::I128(items) => { items.extend_items(array_of!(source, Chunk::I128), start, len) }
+            Chunk::U8(items) => { items.extend_items(array_of!(source, Chunk::U8), start, len) }
+            Chunk::U16(items) => { items.extend_items(array_of!(source, Chunk::U16), start, len) }
+            Chunk::U32(items) => { items.extend_items(array_of!(source, Chunk::U32), start, len) }
+            Chunk::U64(items) => { items.extend_items(array_of!(source, Chunk::U64), start, len) }
+            Chunk::Bytes(items) => {
+                items.extend_items(array_of!(source, Chunk::Bytes), start, len)
+            }
         }
     }
 }

@@ -4,7 +4,8 @@ ghost use Rattle.std.specs.Option.{unwrap_or};
 ghost use Rattle.col_core.specs.declared.frame.FrameError.TheVariants.{Memory};
 ghost use Rattle.col_core.specs.Refusals.{frame_refusal, height_of, differ_in_height, has_types};
 ghost use Rattle.std.specs.List.{All};
-ghost use Rattle.col_core.specs.Tables.{Table, Column, column_of, rows_at, rows_from, values_of, header, AreColumnsOf, AreWide, selected};
+ghost use Rattle.col_core.specs.Tables.{Table, Column, column_of, rows_at, rows_from, values_of, header, AreColumnsOf, AreWide, FitsSchema, selected};
+ghost use Rattle.col_core.specs.Values.{Fits};
 
 use crate::IdxSize;
 use crate::schema::{Field, Schema};
@@ -84,10 +85,11 @@ impl Frame {
         }
     }
 
-    /// The number of rows.
+    /// The number of rows, each of which fits the schema.
     pub fn height(&self) -> usize
         ensures height { result ≡ length self.now.rows }
         ensures wide { AreWide self.now }
+        ensures fits { All (FitsSchema self.now.schema) self.now.rows }
     {
         self.height
     }
@@ -112,6 +114,7 @@ impl Frame {
         requires { i < length self.now.schema }
         ensures values { result.now.values ≡ column_of i self.now.rows }
         ensures header { slice_get self.now.schema i ≡ Some (header result.now) }
+        ensures fits { All (Fits result.now.dtype) result.now.values }
     {
         let _ = &self.height;
         &self.columns[i]
@@ -211,6 +214,7 @@ fn columns_named(
     requires types { IsTrue (has_types schema.now columns.items) }
     ensures headers { IfOk result (λ named. map header named.items ≡ schema.now) }
     ensures values { IfOk result (λ named. values_of named.items ≡ values_of columns.items) }
+    ensures fits { IfOk result (λ named. All (λ column. All (Fits column.dtype) column.values) named.items) }
 {
     let mut named = Vec::new(alloc);
     for column in columns {

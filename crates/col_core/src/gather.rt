@@ -5,7 +5,7 @@ ghost use Rattle.col_core.specs.declared.data_type.PhysicalType.{PhysicalType};
 ghost use Rattle.col_core.specs.declared.data_type.PhysicalType.TheVariants as kept;
 ghost use Rattle.col_core.specs.Places.{IsPlaceIn, IsWithin, placed_value, picked, type_at};
 ghost use Rattle.col_core.specs.Tables.{Column, chunk_leaves, chunk_physical, column_of, IsOfKind};
-ghost use Rattle.col_core.specs.Values.{IsText};
+ghost use Rattle.col_core.specs.Values.{Fits};
 
 use crate::chunk::Chunk;
 use crate::data_type::{DataType, PhysicalType};
@@ -45,7 +45,7 @@ fn columns_at<'a>(
 ) -> Result<Vec<&'a Series>, AllocError>
     requires types { All (λ frame. type_at frame.schema column ≡ Some dtype) frames.now }
     ensures types { IfOk result (λ sources. All (λ source. source.now.dtype ≡ dtype) sources.items) }
-    ensures texts { IfOk result (λ sources. All (λ source. All (IsText dtype) source.now.values) sources.items) }
+    ensures fits { IfOk result (λ sources. All (λ source. All (Fits dtype) source.now.values) sources.items) }
     ensures values { IfOk result (λ sources. map (λ source. source.now.values) sources.items ≡ map (λ frame. column_of column frame.rows) frames.now) }
 {
     let mut sources = Vec::with_capacity(alloc, frames.len())?;

@@ -27,9 +27,10 @@ pub(crate) trait ValueArray: Sized {
     fn empty(alloc: Global) -> Self
         ensures { values result ≡ [] };
 
-    /// The number of items.
+    /// The number of items. Each of them can be kept.
     fn count(&self) -> usize
-        ensures { result ≡ length (values self.now) };
+        ensures count { result ≡ length (values self.now) }
+        ensures kept { All keeps (values self.now) };
 
     /// The number of nulls.
     fn count_null(&self) -> usize
@@ -63,10 +64,11 @@ pub(crate) trait ValueArray: Sized {
         requires { All (λ i. i < length (values self.now)) idxs.now }
         ensures { IfOk result (λ taken. values taken ≡ values_at (values self.now) idxs.now) };
 
-    /// The items, and after them `len` items of another array from `start` on.
-    fn extend_items(self, source: &Self, start: usize, len: usize) -> Result<Self, AllocError>
+    /// Appends `len` items of another array from `start` on. After `Err` the items are as they were.
+    fn extend_items(&mut self, source: &Self, start: usize, len: usize) -> Result<(), AllocError>
         requires { start + len ≤ length (values source.now) }
-        ensures { IfOk result (λ all. values all ≡ values self ++ take len (drop start (values source.now))) };
+        ensures ok { OnOk result (values self.new ≡ values self.old ++ take len (drop start (values source.now))) }
+        ensures err { OnErr result (self.new ≡ self.old) };
 }
 
 #[tactic(auto, using(crate::proofs::ItemLeaves::arrays))]
@@ -117,8 +119,8 @@ impl ValueArray for BooleanArray {
         self.take(alloc, idxs)
     }
 
-    fn extend_items(self, source: &Self, start: usize, len: usize) -> Result<Self, AllocError> {
-        self.extended(source, start, len)
+    fn extend_items(&mut self, source: &Self, start: usize, len: usize) -> Result<(), AllocError> {
+        self.extend_from_range(source, start, len)
     }
 }
 
@@ -170,8 +172,8 @@ impl<T: Native> ValueArray for PrimitiveArray<T> {
         self.take(alloc, idxs)
     }
 
-    fn extend_items(self, source: &Self, start: usize, len: usize) -> Result<Self, AllocError> {
-        self.extended(source, start, len)
+    fn extend_items(&mut self, source: &Self, start: usize, len: usize) -> Result<(), AllocError> {
+        self.extend_from_range(source, start, len)
     }
 }
 
@@ -223,8 +225,8 @@ impl ValueArray for BinaryArray {
         self.take(alloc, idxs)
     }
 
-    fn extend_items(self, source: &Self, start: usize, len: usize) -> Result<Self, AllocError> {
-        self.extended(source, start, len)
+    fn extend_items(&mut self, source: &Self, start: usize, len: usize) -> Result<(), AllocError> {
+        self.extend_from_range(source, start, len)
     }
 }
 

@@ -1,12 +1,12 @@
 //! Columns.
-ghost use Rattle.std.specs.Prelude.{◌≡◌, ◌<◌, ◌≤◌, ◌+◌, ◌^◌, not, length, take, drop, IfOk, IfErr, IfSome, None};
+ghost use Rattle.std.specs.Prelude.{◌≡◌, ◌<◌, ◌≤◌, ◌+◌, ◌^◌, ◌++◌, not, length, take, drop, IfOk, IfErr, IfSome, OnOk, OnErr, None};
 ghost use Rattle.std.specs.List.{All, count_by, list_any, range_with_len};
 ghost use Rattle.std.specs.Option.{unwrap_or};
 ghost use Rattle.col_core.specs.declared.series.ColumnError.TheVariants.{Memory};
 ghost use Rattle.col_core.specs.Lent.{lent_leaf};
 ghost use Rattle.col_core.specs.Refusals.{column_refusal};
-ghost use Rattle.col_core.specs.Tables.{Column, leaves_of, chunk_leaves, values_at, taken, AreChunksOf, IsOfKind, is_of_kind};
-ghost use Rattle.col_core.specs.Values.{value_at, Fits, IsText, is_null, is_text};
+ghost use Rattle.col_core.specs.Tables.{Column, leaves_of, chunk_leaves, values_at, taken, chunk_physical, AreChunksOf, IsWellKept, IsOfKind, is_of_kind};
+ghost use Rattle.col_core.specs.Values.{value_at, Fits, is_null, is_text};
 
 use crate::IdxSize;
 use crate::chunk::Chunk;
@@ -51,6 +51,7 @@ pub enum ColumnError {
 impl Series {
     /// A column of the chunks' values, one chunk after the other. The refusals come in the order
     /// of `ColumnError`, the first that holds; no chunk at all makes an empty column of any type.
+    #[tactic(auto, using(crate::proofs::Accepted::accepts))]
     pub fn new(
         _alloc: Global,
         name: Name,
@@ -62,6 +63,7 @@ impl Series {
         ensures accepted { IfOk result (λ _. column_refusal dtype chunks.items ≡ None) }
         ensures refused { IfErr result (λ e. e ≡ unwrap_or (column_refusal dtype chunks.items) Memory) }
     {
+        know_kept(&chunks);
         match refusal_of(dtype, &chunks) {
             Some(refusal) => Err(refusal),
             None => Ok(Series::from_chunks(name, dtype, chunks)),
@@ -82,7 +84,8 @@ impl Series {
 
     /// The same column under another name.
     pub(crate) fn with_name(self, name: Name) -> Series
-        ensures { result ≡ record self { name = name } }
+        ensures named { result ≡ record self { name = name } }
+        ensures fits { All (Fits result.dtype) result.values }
     {
         Series { name, ..self }
     }
@@ -94,10 +97,11 @@ impl Series {
         &self.name
     }
 
-    /// The column's type. Where it is `String`, every present value is UTF-8.
+    /// The column's type, which every value fits: where it is `String`, every present value is
+    /// UTF-8.
     pub fn dtype(&self) -> DataType
         ensures dtype { result ≡ self.now.dtype }
-        ensures texts { All (IsText result) self.now.values }
+        ensures fits { All (Fits result) self.now.values }
     {
         self.dtype
     }
@@ -146,12 +150,28 @@ impl Series {
     }
 
     /// The chunk that holds the value at a place, and its place there.
+    #[inline(always)]
+    #[tactic(auto, using(crate::proofs::Leaves::steps, crate::proofs::Leaves::ones))]
     pub(crate) fn chunk_at(&self, i: usize) -> (&Chunk, usize)
         requires { i < length self.now.values }
         ensures within { result.1 < length (chunk_leaves result.0.now) }
         ensures value { value_at (chunk_leaves result.0.now) result.1 ≡ value_at self.now.values i }
         ensures kind { IsOfKind self.now.dtype result.0.now }
-        ensures text { IsText self.now.dtype (value_at self.now.values i) }
+        ensures fits { Fits self.now.dtype (value_at self.now.values i) }
+    {
+        match self.chunks() {
+            [chunk] => (chunk, i),
+            _ => self.chunk_past(i),
+        }
+    }
+
+    /// The same, past the chunks before it.
+    fn chunk_past(&self, i: usize) -> (&Chunk, usize)
+        requires { i < length self.now.values }
+        ensures within { result.1 < length (chunk_leaves result.0.now) }
+        ensures value { value_at (chunk_leaves result.0.now) result.1 ≡ value_at self.now.values i }
+        ensures kind { IsOfKind self.now.dtype result.0.now }
+        ensures fits { Fits self.now.dtype (value_at self.now.values i) }
     {
         let mut place = i;
         for chunk in self.chunks() {
@@ -166,7 +186,6 @@ impl Series {
 
     /// The value at a place, lent. It fits the type.
     #[inline(always)]
-    #[tactic(auto, using(crate::proofs::Leaves::fits))]
     pub fn leaf_ref(&self, i: usize) -> LeafRef<'_>
         requires { i < length self.now.values }
         ensures value { lent_leaf result ≡ value_at self.now.values i }
@@ -280,14 +299,39 @@ impl Series {
         for chunk in self.chunks() {
             let skipped = min(skip, chunk.len());
             let count = min(rest, chunk.len() - skipped);
-            joined = joined.extended(chunk, skipped, count)?;
+            joined.extend_from_range(chunk, skipped, count)?;
             skip -= skipped;
             rest -= count;
         }
         Ok(joined)
     }
 
-    /// A column of one chunk, all of whose bytes are texts where the type is one of texts.
+    /// Appends the `len` values from `start` on to a chunk of the same kind. After `Err` the chunk
+    /// is as it was.
+    #[tactic(auto, using(crate::proofs::Leaves::runs))]
+    pub(crate) fn append_range(
+        &self,
+        target: &mut Chunk,
+        start: usize,
+        len: usize,
+    ) -> Result<(), AllocError>
+        requires kind { IsOfKind self.now.dtype target.old }
+        requires in_bounds { start + len ≤ length self.now.values }
+        ensures ok { OnOk result (chunk_leaves target.new ≡ chunk_leaves target.old ++ take len (drop start self.now.values)) }
+        ensures err { OnErr result (target.new ≡ target.old) }
+        ensures kind { chunk_physical target.new ≡ chunk_physical target.old }
+        ensures fits { All (Fits self.now.dtype) (take len (drop start self.now.values)) }
+    {
+        match self.chunks() {
+            [chunk] => target.extend_from_range(chunk, start, len),
+            _ => {
+                let run = self.joined_chunk(*self.chunks.allocator(), start, len)?;
+                target.extend_from_range(&run, 0, len)
+            }
+        }
+    }
+
+    /// A column of one chunk, all of whose values fit the type.
     #[tactic(auto, using(crate::proofs::Leaves::ones))]
     pub(crate) fn from_chunk(
         alloc: Global,
@@ -296,11 +340,21 @@ impl Series {
         chunk: Chunk,
     ) -> Result<Series, AllocError>
         requires kind { IsOfKind dtype chunk }
-        requires texts { All (IsText dtype) (chunk_leaves chunk) }
+        requires fits { All (Fits dtype) (chunk_leaves chunk) }
         ensures { IfOk result (λ s. s ≡ record { name = name; dtype = dtype; values = chunk_leaves chunk }) }
     {
         let _count = chunk.len();
         Ok(Series::from_chunks(name, dtype, vec![in alloc; chunk]?))
+    }
+}
+
+/// Tells how the values of chunks are kept. The loop has no effect, and none is compiled.
+#[inline(always)]
+fn know_kept(chunks: &[Chunk])
+    ensures { All IsWellKept chunks.now }
+{
+    for chunk in chunks {
+        let _count = chunk.len();
     }
 }
 

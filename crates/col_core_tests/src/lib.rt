@@ -8,6 +8,8 @@ mod frames;
 #[cfg(test)]
 mod places;
 #[cfg(test)]
+mod runs;
+#[cfg(test)]
 mod texts;
 #[cfg(test)]
 mod types;

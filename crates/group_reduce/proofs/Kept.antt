@@ -1,7 +1,7 @@
 -- Lists of kept values that stand for states.
-use Rattle.std.proofs.Common.{◌≡◌, ◌≢◌, ◌==◌, ℕ, zero, suc, ◌+◌, ◌<◌, ◌≤◌, Bool, true, false, if◌then◌else◌, List, [], ◌∷◌, ◌++◌, length, take, get_or, map, replicate, slice_get, IsSomeAnd, Some, None, is_some, Result, Ok, Err, OnOk, OnErr, refl, sym, ap, subst, ◌∙◌, arith}
+use Rattle.std.proofs.Common.{◌≡◌, ◌==◌, ℕ, zero, suc, ◌+◌, ◌<◌, ◌≤◌, Bool, true, false, if◌then◌else◌, List, [], ◌∷◌, ◌++◌, length, take, get_or, map, slice_get, IsSomeAnd, Some, None, is_some, Result, Ok, Err, OnErr, refl, sym, ap, subst, ◌∙◌, arith}
 use Rattle.std.proofs.Math.ListN.{set}
-use Rattle.std.proofs.lemmas.List.{set-get_or, take_all, length-set}
+use Rattle.std.proofs.lemmas.List.{set-get_or, take_all}
 use Rattle.std.specs.List.{All, AllZip, zip}
 use Rattle.list_laws.specs.Each.{Each}
 use Rattle.list_laws.proofs.Each.{Each-from_All, All-from_Each}
@@ -65,6 +65,12 @@ AllZip-at_place R [] (y ∷ ys) p P Q h k f = absurd h
 AllZip-at_place R (x ∷ xs) [] p P Q h k f = absurd h
 AllZip-at_place R (x ∷ xs) (y ∷ ys) zero P Q h k f = f x y h.0 k
 AllZip-at_place R (x ∷ xs) (y ∷ ys) (suc p) P Q h k f = AllZip-at_place R xs ys p P Q h.1 k f
+
+-- what holds of an item at a place, and so something else
+pub weaker_place : {A : Type 0} (xs : List A) (p : ℕ) (P Q : A → Type 0) → IsSomeAnd (slice_get xs p) P → ((x : A) → P x → Q x) → IsSomeAnd (slice_get xs p) Q
+weaker_place [] p P Q h f = h
+weaker_place (x ∷ xs) zero P Q h f = f x h
+weaker_place (x ∷ xs) (suc p) P Q h f = weaker_place xs p P Q h f
 
 -- ---- a kept value at a place
 

@@ -1,5 +1,5 @@
 -- What the calls of a reducer do to the states that its values stand for.
-use Rattle.std.specs.Prelude.{◌≡◌, ◌+◌, ℕ, Bool, true, false, List, Some, None, map, replicate, length}
+use Rattle.std.specs.Prelude.{◌≡◌, ◌+◌, ℕ, Bool, true, false, List, Some, None, replicate}
 use Rattle.std.specs.List.{All, AllZip, zip}
 use Rattle.col_core.specs.declared.leaf.Leaf.{Leaf}
 use Rattle.col_core.specs.declared.leaf.Leaf.TheVariants as leaves
@@ -12,12 +12,12 @@ use Rattle.reduce_states.specs.Reductions.{Shape}
 -- a value of a column has entered a kept value; sequence numbers of reducers are one above those of entries
 unfoldable pub TakesOne : {V : Type 0} → (V → State → Type 0) → ReductionKind → ℕ → Leaf → V → V → Type 0
 TakesOne stands k seq_id leaf old new = (t : DataType) (n : ℕ) (x : State) → seq_id ≡ n + 1 → stands old x
-  → stands new (merge k t x (one k t (record { number = n; value = leaf })))
+    → stands new (merge k t x (one k t (record { number = n; value = leaf })))
 
 -- values of a column have entered a kept value, one after the other
 unfoldable pub TakesAll : {V : Type 0} → (V → State → Type 0) → ReductionKind → ℕ → List Leaf → V → V → Type 0
 TakesAll stands k seq_id values old new = (t : DataType) (n : ℕ) (x : State) → seq_id ≡ n + 1 → stands old x
-  → stands new (after k t x (numbered n values))
+    → stands new (after k t x (numbered n values))
 
 -- a kept value has been merged into another
 unfoldable pub Merges : {V : Type 0} → (V → State → Type 0) → ReductionKind → V → V → V → Type 0

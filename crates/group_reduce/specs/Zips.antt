@@ -1,5 +1,5 @@
 -- Lists whose items go in pairs.
-use Rattle.std.specs.Prelude.{◌≡◌, ◌≢◌, suc, List, [], ◌∷◌, length, refl}
+use Rattle.std.specs.Prelude.{◌≡◌, suc, List, [], ◌∷◌, length, refl}
 use Rattle.std.specs.List.{AllZip}
 use Rattle.std.proofs.Common.{ap}
 use Rattle.list_laws.specs.Each.{Each}

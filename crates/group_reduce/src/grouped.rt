@@ -56,7 +56,12 @@ pub trait GroupedReduction: Stated + Sized + Drop {
         ensures err { OnErr result ((Self.shape self.new ≡ Self.shape self.old) × Stays (Self.holds self.old) (Self.holds self.new)) };
 
     /// All values, in order, enter one group. After `Err` the group is as it was.
-    fn update_group(&mut self, values: &Series, group_idx: IdxSize, seq_id: u64) -> Result<(), AllocError>
+    fn update_group(
+        &mut self,
+        values: &Series,
+        group_idx: IdxSize,
+        seq_id: u64,
+    ) -> Result<(), AllocError>
         requires dtype { values.now.dtype ≡ (Self.shape self.old).dtype }
         requires place { group_idx < (Self.shape self.old).groups }
         requires number { seq_id < 2 ^ 64 - 1 }
@@ -67,7 +72,12 @@ pub trait GroupedReduction: Stated + Sized + Drop {
         ensures fixed { (Self.shape self.old).fixed ≡ true → IsOk result };
 
     /// Value `i` enters group `group_idxs[i]`. After `Err` a front part has entered.
-    fn update_groups(&mut self, values: &Series, group_idxs: &[IdxSize], seq_id: u64) -> Result<(), AllocError>
+    fn update_groups(
+        &mut self,
+        values: &Series,
+        group_idxs: &[IdxSize],
+        seq_id: u64,
+    ) -> Result<(), AllocError>
         requires dtype { values.now.dtype ≡ (Self.shape self.old).dtype }
         requires lengths { length values.now.values ≡ length group_idxs.now }
         requires places { All (λ g. g < (Self.shape self.old).groups) group_idxs.now }
@@ -91,7 +101,12 @@ pub trait GroupedReduction: Stated + Sized + Drop {
 
     /// Group `subset[i]` of `other` enters group `group_idxs[i]`. After `Err` a front part has
     /// entered.
-    fn gather_combine(&mut self, other: &Self, subset: &[IdxSize], group_idxs: &[IdxSize]) -> Result<(), AllocError>
+    fn gather_combine(
+        &mut self,
+        other: &Self,
+        subset: &[IdxSize],
+        group_idxs: &[IdxSize],
+    ) -> Result<(), AllocError>
         requires alike { AreAlike (Self.shape self.old) (Self.shape other.now) }
         requires lengths { length subset.now ≡ length group_idxs.now }
         requires from { All (λ g. g < (Self.shape other.now).groups) subset.now }
@@ -105,7 +120,12 @@ pub trait GroupedReduction: Stated + Sized + Drop {
 
     /// Group `i` goes to part `partition_idxs[i]`, in group order. `Err` is want of memory, and
     /// hands the groups back.
-    fn partition(self, alloc: Global, partition_sizes: &[IdxSize], partition_idxs: &[IdxSize]) -> Result<Vec<Self>, Self>
+    fn partition(
+        self,
+        alloc: Global,
+        partition_sizes: &[IdxSize],
+        partition_idxs: &[IdxSize],
+    ) -> Result<Vec<Self>, Self>
         requires lengths { length partition_idxs.now ≡ (Self.shape self).groups }
         requires sizes { AreSizes partition_sizes.now partition_idxs.now }
         ensures parts { IfOk result (λ v. vec_len v ≡ length partition_sizes.now) }

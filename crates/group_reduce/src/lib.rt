@@ -3,11 +3,13 @@
 
 mod entering;
 mod grouped;
+mod nulls;
 mod reducer;
 mod vectors;
 mod wrapped;
 
 pub use grouped::{GroupedReduction, Stated};
+pub use nulls::NullGroupedReduction;
 pub use reducer::Reducer;
 pub use vectors::VecGroupedReduction;
 pub use wrapped::parts_in;

@@ -64,7 +64,13 @@ pub trait Reducer: Copy {
         ensures fixed { FIXED ≡ true → IsOk result };
 
     /// `reduce_one` with item `i`.
-    fn reduce_at(&self, a: &mut Self::Value, values: &Series, i: usize, seq_id: u64) -> Result<(), AllocError>
+    fn reduce_at(
+        &self,
+        a: &mut Self::Value,
+        values: &Series,
+        i: usize,
+        seq_id: u64,
+    ) -> Result<(), AllocError>
         requires number { 0 < seq_id }
         requires place { i < length values.now.values }
         requires served { serves values.now.dtype ≡ true }
@@ -87,7 +93,13 @@ pub trait Reducer: Copy {
 
     /// A column with an empty name of the values that the states hold. An item is null where its
     /// state holds none, and where its bit of a given `m` is not set.
-    fn finish(&self, alloc: Global, v: &[Self::Value], m: Option<&MutableBitmap>, dtype: DataType) -> Result<Series, AllocError>
+    fn finish(
+        &self,
+        alloc: Global,
+        v: &[Self::Value],
+        m: Option<&MutableBitmap>,
+        dtype: DataType,
+    ) -> Result<Series, AllocError>
         requires mask { ForSome m (λ bits. length bits.now ≡ length v.now) }
         requires served { serves dtype ≡ true }
         requires fit { AllFit fits dtype v.now }

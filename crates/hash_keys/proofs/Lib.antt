@@ -1,1 +1,4 @@
+pub mod Ranges
+pub mod Dealt
+pub mod Gathered
 pub mod Hashed

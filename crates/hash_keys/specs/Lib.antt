@@ -1,3 +1,5 @@
 pub mod Keys
 pub mod Hashed
 pub mod Views
+pub mod Dealt
+pub mod Gathered

@@ -1,10 +1,17 @@
 //! Keys of rows, whichever way they are kept.
-ghost use Rattle.std.specs.Prelude.{◌≡◌, ◌<◌, ◌^◌, ◌==◌, length, IfSome, option_copied};
+ghost use Rattle.std.specs.Prelude.{◌≡◌, ◌<◌, ◌^◌, ◌==◌, ◌++◌, ◌⊎◌, ℕ, Some, map, length, slice_index, IfOk, IfSome, OnOk, OnErr, option_copied};
+ghost use Rattle.std.specs.List.{All, range_with_len};
 ghost use Rattle.key_parts.specs.Hashes.{hash_of};
+ghost use Rattle.key_parts.specs.Partitions.{partition_of};
+ghost use Rattle.key_parts.specs.Positions.{position};
+ghost use Rattle.hash_keys.specs.Dealt.{deals, deals_front, sketched, sketched_front};
+ghost use Rattle.hash_keys.specs.Gathered.{count_in, keys_at, numbered};
 ghost use Rattle.hash_keys.specs.Keys.{key_at};
 
 use crate::row_encoded::RowEncodedKeys;
-use key_parts::PlRandomState;
+use col_arrays::IdxSize;
+use key_parts::{CardinalitySketch, ChunkId, HashPartitioner, PlRandomState};
+use std::alloc::{AllocError, Global};
 
 /// Keys of rows with their hashes.
 #[derive(Debug, Drop)]
@@ -61,6 +68,85 @@ impl HashKeys {
     {
         match self {
             HashKeys::RowEncoded(keys) => keys.state(),
+        }
+    }
+
+    /// The keys at indexes, in the order of the indexes.
+    pub fn gather(&self, alloc: Global, idxs: &[IdxSize]) -> Result<HashKeys, AllocError>
+        requires in_bounds { All (λ i. i < length (keys_of self.now)) idxs.now }
+        requires few { length idxs.now < 2 ^ 32 }
+        ensures keys { IfOk result (λ k. keys_of k ≡ keys_at (keys_of self.now) idxs.now) }
+        ensures state { IfOk result (λ k. state_of k ≡ state_of self.now) }
+    {
+        match self {
+            HashKeys::RowEncoded(keys) => Ok(HashKeys::RowEncoded(keys.gather(alloc, idxs)?)),
+        }
+    }
+
+    /// The rows of each partition, in their order, one list a partition. A null key's row goes to
+    /// list 0 where `partition_nulls` says so, and else nowhere. Each sketch takes the hashes of
+    /// its partition's present keys. After `Err` the lists and the sketches are those of the first
+    /// so many rows.
+    pub fn gen_partition_idxs(
+        &self,
+        partitioner: &HashPartitioner,
+        partition_idxs: &mut [Vec<IdxSize>],
+        sketches: &mut [CardinalitySketch],
+        partition_nulls: bool,
+    ) -> Result<(), AllocError>
+        requires lists { length partition_idxs.old ≡ partitioner.now.partitions }
+        requires sketches { (length sketches.old ≡ 0) ⊎ (length sketches.old ≡ partitioner.now.partitions) }
+        ensures lists { OnOk result (map (λ v. v.items) partition_idxs.new ≡ deals (partition_of (state_of self.now) partitioner.now) partition_nulls partitioner.now.partitions (keys_of self.now)) }
+        ensures sketches { OnOk result (sketches.new ≡ sketched (partition_of (state_of self.now) partitioner.now) (hash_of (state_of self.now)) sketches.old (keys_of self.now)) }
+        ensures err { OnErr result ((n : ℕ) × (n < length (keys_of self.now)) × (map (λ v. v.items) partition_idxs.new ≡ deals_front (partition_of (state_of self.now) partitioner.now) partition_nulls partitioner.now.partitions (keys_of self.now) n) × (sketches.new ≡ sketched_front (partition_of (state_of self.now) partitioner.now) (hash_of (state_of self.now)) sketches.old (keys_of self.now) n)) }
+    {
+        match self {
+            HashKeys::RowEncoded(keys) => {
+                if sketches.is_empty() {
+                    keys.gen_partition_idxs::<false>(
+                        partitioner,
+                        partition_idxs,
+                        sketches,
+                        partition_nulls,
+                    )
+                } else {
+                    keys.gen_partition_idxs::<true>(
+                        partitioner,
+                        partition_idxs,
+                        sketches,
+                        partition_nulls,
+                    )
+                }
+            }
+        }
+    }
+
+    /// Appends positions: key `i` gives the next `gathers_per_key[i]` of its partition, each the
+    /// partition and a number in it from 0. A null key has partition 0. After `Err` nothing has
+    /// changed.
+    pub fn gen_partitioned_gather_idxs(
+        &self,
+        alloc: Global,
+        partitioner: &HashPartitioner,
+        gathers_per_key: &[IdxSize],
+        gather_idxs: &mut Vec<ChunkId>,
+    ) -> Result<(), AllocError>
+        requires counts { length gathers_per_key.now ≡ length (keys_of self.now) }
+        requires few { (p : ℕ) → count_in (λ i. partition_of (state_of self.now) partitioner.now (key_at (keys_of self.now) i)) (slice_index gathers_per_key.now) p (range_with_len 0 (length (keys_of self.now))) < 2 ^ 32 }
+        ensures ok { OnOk result (map position gather_idxs.new.items ≡ map position gather_idxs.old.items ++ map (λ x. Some x) (numbered (λ i. partition_of (state_of self.now) partitioner.now (key_at (keys_of self.now) i)) (slice_index gathers_per_key.now) (range_with_len 0 (length (keys_of self.now))) (λ _. 0))) }
+        ensures err { OnErr result (gather_idxs.new.items ≡ gather_idxs.old.items) }
+    {
+        let keys = self.row_encoded();
+        keys.gen_partitioned_gather_idxs(alloc, partitioner, gathers_per_key, gather_idxs)
+    }
+
+    /// The keys as the bytes of their rows.
+    fn row_encoded(&self) -> &RowEncodedKeys
+        ensures keys { result.now.keys ≡ keys_of self.now }
+        ensures state { result.now.state ≡ state_of self.now }
+    {
+        match self {
+            HashKeys::RowEncoded(keys) => keys,
         }
     }
 }

@@ -1,6 +1,8 @@
 //! Keys of rows with their hashes.
 #![tactic(auto)]
 
+mod deal;
+mod gather;
 mod keys;
 mod row_encoded;
 

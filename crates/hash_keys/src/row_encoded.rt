@@ -1,10 +1,13 @@
 //! Keys as the bytes of their rows.
-ghost use Rattle.std.specs.Prelude.{◌≡◌, ◌<◌, ◌^◌, ◌==◌, length, IfSome, option_copied};
+ghost use Rattle.std.specs.Prelude.{◌≡◌, ◌<◌, ◌^◌, ◌==◌, length, IfOk, IfSome, option_copied};
+ghost use Rattle.std.specs.List.{All};
 ghost use Rattle.key_parts.specs.Hashes.{hash_of};
+ghost use Rattle.hash_keys.specs.Gathered.{keys_at};
 ghost use Rattle.hash_keys.specs.Keys.{key_at};
 
-use col_arrays::BinaryArray;
+use col_arrays::{BinaryArray, IdxSize};
 use key_parts::PlRandomState;
+use std::alloc::{AllocError, Global};
 use std::marker::Model;
 
 /// Keys of rows as bytes, of which some may be null, with the hash of each. Contracts see the state
@@ -66,5 +69,23 @@ impl RowEncodedKeys {
         ensures { result ≡ self.now.state }
     {
         self.state
+    }
+
+    /// The keys at indexes, in the order of the indexes.
+    pub fn gather(&self, alloc: Global, idxs: &[IdxSize]) -> Result<RowEncodedKeys, AllocError>
+        requires in_bounds { All (λ i. i < length self.now.keys) idxs.now }
+        requires few { length idxs.now < 2 ^ 32 }
+        ensures { IfOk result (λ k. k ≡ record { state = self.now.state; keys = keys_at self.now.keys idxs.now }) }
+    {
+        let keys = self.keys.take(alloc, idxs)?;
+        let mut hashes = Vec::with_capacity(alloc, idxs.len())?;
+        for i in idxs {
+            hashes.push(self.hashes[*i as usize])?;
+        }
+        Ok(RowEncodedKeys {
+            state: self.state,
+            hashes,
+            keys,
+        })
     }
 }

@@ -10,7 +10,6 @@ use mathlib.Core.List.{map-map}
 use Rattle.std.proofs.lemmas.List.FromFn.{get_or-map-range_with_len, length-map-range_with_len}
 use Rattle.hash_keys.specs.Gathered.{bumped, numbered}
 use Rattle.hash_keys.specs.Keys.{Key}
-
 use Rattle.join_laws.specs.Pairs.{Pair}
 use Rattle.join_laws.specs.Partitions.{dealt, AtPair, IsFound, is_of, is_row, no_pair, pair_at}
 use Rattle.join_laws.specs.Places.{RowPlace}

@@ -12,4 +12,3 @@ less_beats x y z h g = grind (arith, ints)
 
 pub greater_beats : (x y z : ℤ) → int_lt y x ≡ true → int_lt y z ≡ false → int_lt x z ≡ false
 greater_beats x y z h g = grind (arith, ints)
-

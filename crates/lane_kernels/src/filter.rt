@@ -130,11 +130,7 @@ fn filter_blocks<'a, T: Copy>(
 }
 
 /// Appends the values whose mask bit is set. After `Err` `out` is as it was.
-fn filter_values<T: Copy>(
-    values: &[T],
-    mask: &BitMask,
-    out: &mut Vec<T>,
-) -> Result<(), AllocError>
+fn filter_values<T: Copy>(values: &[T], mask: &BitMask, out: &mut Vec<T>) -> Result<(), AllocError>
     requires { length mask.now ≡ length values.now }
     ensures ok { IfOk result (λ _. out.new.items ≡ out.old.items ++ filtered values.now mask.now) }
     ensures err { OnErr result (out.new.items ≡ out.old.items) }

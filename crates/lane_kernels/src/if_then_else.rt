@@ -57,7 +57,7 @@ pub trait IfThenElseKernel: Sized {
     ) -> Result<Self, AllocError>
         ensures { IfOk result (λ all. items all
             ≡ chosen mask.now (replicate (length mask.now) (if_true, true))
-                (replicate (length mask.now) (if_false, true))) };
+            (replicate (length mask.now) (if_false, true))) };
 }
 
 impl<T: Native> IfThenElseKernel for PrimitiveArray<T> {

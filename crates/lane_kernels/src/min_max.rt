@@ -28,7 +28,7 @@ pub trait MinMaxKernel {
     fn min_max_ignore_nan_kernel(&self) -> Option<(Self::Scalar, Self::Scalar)>
         ensures { MatchOption result (present self.now ≡ [])
             (λ both. IsLeast value (present self.now) both.0
-                × IsGreatest value (present self.now) both.1) }
+            × IsGreatest value (present self.now) both.1) }
     {
         Some((self.min_ignore_nan_kernel()?, self.max_ignore_nan_kernel()?))
     }
@@ -51,7 +51,7 @@ pub trait MinMaxKernel {
     fn min_max_propagate_nan_kernel(&self) -> Option<(Self::Scalar, Self::Scalar)>
         ensures { MatchOption result (present self.now ≡ [])
             (λ both. IsLeast value (present self.now) both.0
-                × IsGreatest value (present self.now) both.1) }
+            × IsGreatest value (present self.now) both.1) }
     {
         self.min_max_ignore_nan_kernel()
     }
@@ -133,13 +133,7 @@ fn better<C: Order, T: Native>(best: Option<T>, value: T) -> T
         → IsBest C.holds T.value (so_far ++ value ∷ []) result }
 {
     match best {
-        Some(best) => {
-            if C::compare(value, best) {
-                value
-            } else {
-                best
-            }
-        }
+        Some(best) => { if C::compare(value, best) { value } else { best } }
         None => value,
     }
 }

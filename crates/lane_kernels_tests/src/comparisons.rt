@@ -10,9 +10,24 @@ fn two_arrays(rt: HostRuntime) -> Result<(), Fail> {
     let left = array_of::<i8>(alloc, &[Some(1), Some(2)])?;
     let right = array_of::<i8>(alloc, &[Some(1), Some(3)])?;
     let low = array_of::<i8>(alloc, &[Some(0), Some(2)])?;
-    expect_bits(&rt, alloc, left.tot_eq_kernel(alloc, &right)?, &[true, false])?;
-    expect_bits(&rt, alloc, left.tot_ne_kernel(alloc, &right)?, &[false, true])?;
-    expect_bits(&rt, alloc, left.tot_lt_kernel(alloc, &right)?, &[false, true])?;
+    expect_bits(
+        &rt,
+        alloc,
+        left.tot_eq_kernel(alloc, &right)?,
+        &[true, false],
+    )?;
+    expect_bits(
+        &rt,
+        alloc,
+        left.tot_ne_kernel(alloc, &right)?,
+        &[false, true],
+    )?;
+    expect_bits(
+        &rt,
+        alloc,
+        left.tot_lt_kernel(alloc, &right)?,
+        &[false, true],
+    )?;
     expect_bits(&rt, alloc, left.tot_le_kernel(alloc, &low)?, &[false, true])?;
     Ok(())
 }
@@ -22,12 +37,30 @@ fn a_scalar(rt: HostRuntime) -> Result<(), Fail> {
     let alloc = rt.alloc();
     let left = array_of::<i8>(alloc, &[Some(-1), Some(0), Some(1)])?;
     let cases = [
-        (left.tot_eq_kernel_broadcast(alloc, &0)?, [false, true, false]),
-        (left.tot_ne_kernel_broadcast(alloc, &0)?, [true, false, true]),
-        (left.tot_lt_kernel_broadcast(alloc, &0)?, [true, false, false]),
-        (left.tot_le_kernel_broadcast(alloc, &0)?, [true, true, false]),
-        (left.tot_gt_kernel_broadcast(alloc, &0)?, [false, false, true]),
-        (left.tot_ge_kernel_broadcast(alloc, &0)?, [false, true, true]),
+        (
+            left.tot_eq_kernel_broadcast(alloc, &0)?,
+            [false, true, false],
+        ),
+        (
+            left.tot_ne_kernel_broadcast(alloc, &0)?,
+            [true, false, true],
+        ),
+        (
+            left.tot_lt_kernel_broadcast(alloc, &0)?,
+            [true, false, false],
+        ),
+        (
+            left.tot_le_kernel_broadcast(alloc, &0)?,
+            [true, true, false],
+        ),
+        (
+            left.tot_gt_kernel_broadcast(alloc, &0)?,
+            [false, false, true],
+        ),
+        (
+            left.tot_ge_kernel_broadcast(alloc, &0)?,
+            [false, true, true],
+        ),
     ];
     for (bits, wanted) in cases {
         expect_bits(&rt, alloc, bits, &wanted)?;

@@ -19,10 +19,22 @@ fn expect_arrays<T: Native>(
     let right = array_of(alloc, &[Some(greatest), Some(greatest), Some(least), None])?;
     let (same, other) = (zero_is_least, !zero_is_least);
     let cases = [
-        (left.tot_eq_kernel(alloc, &right)?, [false, true, same, false]),
-        (left.tot_ne_kernel(alloc, &right)?, [true, false, other, true]),
-        (left.tot_lt_kernel(alloc, &right)?, [true, false, false, false]),
-        (left.tot_le_kernel(alloc, &right)?, [true, true, same, false]),
+        (
+            left.tot_eq_kernel(alloc, &right)?,
+            [false, true, same, false],
+        ),
+        (
+            left.tot_ne_kernel(alloc, &right)?,
+            [true, false, other, true],
+        ),
+        (
+            left.tot_lt_kernel(alloc, &right)?,
+            [true, false, false, false],
+        ),
+        (
+            left.tot_le_kernel(alloc, &right)?,
+            [true, true, same, false],
+        ),
     ];
     for (bits, wanted) in cases {
         expect_bits(rt, alloc, bits, &wanted)?;
@@ -41,12 +53,30 @@ fn expect_scalar<T: Native>(
     let left = array_of(alloc, &[Some(least), Some(greatest), None])?;
     let (same, other) = (zero_is_least, !zero_is_least);
     let cases = [
-        (left.tot_eq_kernel_broadcast(alloc, &least)?, [true, false, same]),
-        (left.tot_ne_kernel_broadcast(alloc, &least)?, [false, true, other]),
-        (left.tot_lt_kernel_broadcast(alloc, &least)?, [false, false, false]),
-        (left.tot_le_kernel_broadcast(alloc, &least)?, [true, false, same]),
-        (left.tot_gt_kernel_broadcast(alloc, &least)?, [false, true, other]),
-        (left.tot_ge_kernel_broadcast(alloc, &least)?, [true, true, true]),
+        (
+            left.tot_eq_kernel_broadcast(alloc, &least)?,
+            [true, false, same],
+        ),
+        (
+            left.tot_ne_kernel_broadcast(alloc, &least)?,
+            [false, true, other],
+        ),
+        (
+            left.tot_lt_kernel_broadcast(alloc, &least)?,
+            [false, false, false],
+        ),
+        (
+            left.tot_le_kernel_broadcast(alloc, &least)?,
+            [true, false, same],
+        ),
+        (
+            left.tot_gt_kernel_broadcast(alloc, &least)?,
+            [false, true, other],
+        ),
+        (
+            left.tot_ge_kernel_broadcast(alloc, &least)?,
+            [true, true, true],
+        ),
     ];
     for (bits, wanted) in cases {
         expect_bits(rt, alloc, bits, &wanted)?;

@@ -61,9 +61,7 @@ fn unknown_group(query: &Query, columns: &[ColumnRef]) -> Option<usize>
     ensures place { result ≡ position (is_unknown query.now) columns.now }
     ensures within { IfSome result (λ i. i < length columns.now) }
 {
-    columns
-        .iter()
-        .position(|column| is_unknown(query, column))
+    columns.iter().position(|column| is_unknown(query, column))
 }
 
 // The place of the first reduction of a column that its side lacks.

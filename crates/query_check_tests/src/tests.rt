@@ -61,7 +61,10 @@ const REFUSALS: [(Change, Change, Option<QueryError>); 9] = [
 #[test]
 fn tells_the_first_cause(rt: HostRuntime) -> Result<(), Fail> {
     for (first, second, error) in REFUSALS {
-        assert!(rt; refusal(rt.alloc(), first, second)? == error, "{first:?} {second:?}");
+        assert!(rt;
+            refusal(rt.alloc(), first, second)? == error,
+            "{first:?} {second:?}"
+        );
     }
     Ok(())
 }

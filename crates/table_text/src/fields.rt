@@ -3,9 +3,10 @@ ghost use Rattle.std.specs.Prelude.{◌≡◌, [], ◌∷◌, ◌++◌, OnOk};
 ghost use Rattle.std.specs.Fmt.{signed_decimal};
 ghost use Rattle.csv.specs.Records.{fields_of, partial_of};
 ghost use Rattle.hex.specs.Hex.{encode_lower};
+ghost use Rattle.col_core.specs.Lent.{lent_leaf};
 ghost use Rattle.table_text.specs.Fields.{value_text, bytes_text};
 
-use col_core::{DataType, Leaf};
+use col_core::{DataType, LeafRef};
 use csv::ByteRecord;
 use itoa::Buffer;
 use std::alloc::AllocError;
@@ -15,19 +16,19 @@ pub fn push_value(
     fields: &mut ByteRecord,
     spare: &mut Vec<u8>,
     dtype: DataType,
-    value: &Leaf,
+    value: LeafRef<'_>,
 ) -> Result<(), AllocError>
     requires { partial_of fields.old ≡ [] }
     ensures fields { OnOk result (fields_of fields.new ≡
-        fields_of fields.old ++ value_text dtype value.now ∷ []) }
+        fields_of fields.old ++ value_text dtype (lent_leaf value.entry) ∷ []) }
     ensures whole { OnOk result (partial_of fields.new ≡ []) }
 {
     match value {
-        Leaf::Null => fields.push_field(b"\\N"),
-        Leaf::Bool(true) => fields.push_field(b"true"),
-        Leaf::Bool(false) => fields.push_field(b"false"),
-        Leaf::Whole(number) => push_number(fields, *number),
-        Leaf::Bytes(bytes) => push_bytes(fields, spare, dtype, bytes.as_slice()),
+        LeafRef::Null => fields.push_field(b"\\N"),
+        LeafRef::Bool(true) => fields.push_field(b"true"),
+        LeafRef::Bool(false) => fields.push_field(b"false"),
+        LeafRef::Whole(number) => push_number(fields, number),
+        LeafRef::Bytes(bytes) => push_bytes(fields, spare, dtype, bytes),
     }
 }
 

@@ -6,7 +6,7 @@ ghost use Rattle.table_text.specs.Records.{header_record, row_record};
 use crate::fields::push_value;
 use col_core::{Frame, Schema};
 use csv::ByteRecord;
-use std::alloc::{AllocError, Global};
+use std::alloc::AllocError;
 
 /// Makes it the header record: the mark, and the names of the columns.
 pub fn fill_header(fields: &mut ByteRecord, mark: &str, schema: &Schema) -> Result<(), AllocError>
@@ -23,7 +23,6 @@ pub fn fill_header(fields: &mut ByteRecord, mark: &str, schema: &Schema) -> Resu
 /// Makes it the record of the row at a place: the mark, and its values.
 pub fn fill_row(
     fields: &mut ByteRecord,
-    alloc: Global,
     spare: &mut Vec<u8>,
     mark: &str,
     table: &Frame,
@@ -36,7 +35,7 @@ pub fn fill_row(
     fields.clear();
     fields.push_field(mark.as_bytes())?;
     for column in table.columns() {
-        push_value(fields, spare, column.dtype(), &column.leaf(alloc, i)?)?;
+        push_value(fields, spare, column.dtype(), column.leaf_ref(i))?;
     }
     Ok(())
 }

@@ -22,7 +22,7 @@ pub fn frame_text(alloc: Global, mark: &str, frame: &Frame) -> Result<Blob, Text
 {
     let mut writer = record_writer(alloc);
     write_table(alloc, &mut writer, mark, frame)?;
-    Ok(Blob::new(alloc, &written_text(writer)?)?)
+    Ok(Blob::from_vec(written_text(writer)?))
 }
 
 /// The text of two tables, one after the other, each as [`frame_text`] writes it. Their widths may differ.
@@ -39,7 +39,7 @@ pub fn tables_text(
     let mut writer = record_writer(alloc);
     write_table(alloc, &mut writer, first_mark, first)?;
     write_table(alloc, &mut writer, second_mark, second)?;
-    Ok(Blob::new(alloc, &written_text(writer)?)?)
+    Ok(Blob::from_vec(written_text(writer)?))
 }
 
 /// Writes the records of a table, each with the mark as its first field.
@@ -59,7 +59,7 @@ fn write_table(
     fill_header(&mut record, mark, table.schema())?;
     write_record(writer, &record)?;
     for i in 0..table.height() {
-        fill_row(&mut record, alloc, &mut spare, mark, table, i)?;
+        fill_row(&mut record, &mut spare, mark, table, i)?;
         write_record(writer, &record)?;
     }
     Ok(())

@@ -1,6 +1,9 @@
 use Rattle.std.proofs.Common.{◌≡◌, ◌∙◌, [], ◌∷◌, ◌++◌, length, ap, sym, subst, refl, List, rules, arith}
 use Rattle.std.specs.Vec.Iter.{into_iter_items}
+use Rattle.std.specs.List.{All}
+use Rattle.std.proofs.lemmas.List.Elements.{All-push}
 use Rattle.col_core.specs.Tables.{Column}
+use Rattle.col_core.specs.Values.{Fits}
 use Rattle.col_core.proofs.Named.{IsNamed, named, named_more, named_headers, named_values}
 use Rattle.col_core.proofs.frame.columns_named.Goals as goal
 
@@ -17,8 +20,12 @@ loop-column-preserved c =
     let left : into_iter_items c.loop-column.column-iterator ≡ c.in-Some.column ∷ rest = search rules in
     let before : IsNamed schema columns done (c.in-Some.column ∷ rest) = subst (IsNamed schema columns done) left c.loop-column.invariant.named in
     let pushed : c.push.new.self.items ≡ done ++ named c.in-Some.column c.field-field.result.now ∷ [] = search rules in
+    let AllFit : Column → Type 0 = λ x. All (Fits x.dtype) x.values in
+    let one = named c.in-Some.column c.field-field.result.now in
+    let fits : AllFit one = search rules in
     record {
       named = rw pushed (named_more schema columns done rest c.in-Some.column c.field-field.result.now (search rules) before);
+      fits = rw pushed (All-push AllFit done one c.loop-column.invariant.fits fits);
       counted = let short = ap length left in let gone = c.in-Some.ensures.steps.1 in let was = c.loop-column.invariant.counted in omega arith;
     }
 

@@ -1,6 +1,5 @@
-use Rattle.std.proofs.Common.{◌≡◌, ◌<◌, ◌∙◌, ℕ, List, map, length, ap, subst, Bor}
+use Rattle.std.proofs.Common.{◌≡◌, ◌<◌, ◌∙◌, ℕ, map, length, ap, subst, Bor}
 use Rattle.std.proofs.lemmas.List.{length-map}
-use Rattle.col_core.specs.declared.leaf.Leaf.{Leaf}
 use Rattle.col_core.specs.declared.series.Series.{Series}
 use Rattle.col_core.specs.Places.{IsWithin}
 use Rattle.col_core.proofs.Places.{list_within, same_kind}

@@ -1,8 +1,7 @@
-use Rattle.std.proofs.Common.{◌≡◌, ◌<◌, ◌+◌, ℕ, true, List, length, get_or, refl, sym, subst, arith}
-use Rattle.std.specs.List.{AllZip}
+use Rattle.std.proofs.Common.{◌≡◌, true, get_or, refl, sym, subst}
 use Rattle.std.proofs.lemmas.List.Elements.{All-set}
 use Rattle.std.proofs.lemmas.Result.{on_ok_weaker, on_err_weaker}
-use Rattle.reduce_states.specs.States.{State, start, after}
+use Rattle.reduce_states.specs.States.{start, after}
 use Rattle.reduce_states.specs.Moves.{numbered}
 use Rattle.group_reduce.specs.Reducing.{TakesAll}
 use Rattle.group_reduce.proofs.Kept.{found, stayed, AllZip-set}

@@ -1,7 +1,6 @@
-use Rattle.std.proofs.Common.{rules, ◌≡◌, ◌<◌, ◌≤◌, ◌+◌, ℕ, true, List, length, take, get_or, None, refl, sym, subst, ap, ◌∙◌, arith}
+use Rattle.std.proofs.Common.{rules, ◌≡◌, ◌<◌, ◌≤◌, true, List, length, take, get_or, None, refl, sym, subst, ap, arith}
 use Rattle.std.specs.List.{AllZip}
 use Rattle.std.proofs.lemmas.List.Elements.{All-set}
-use Rattle.col_core.specs.Values.{value_at}
 use Rattle.reduce_states.specs.States.{State, start, merge}
 use Rattle.reduce_states.specs.Moves.{entered, ones}
 use Rattle.reduce_states.specs.Reductions.{Enters, EntersFront, OnesOf}

@@ -1,4 +1,4 @@
-use Rattle.std.proofs.Common.{rules, ◌≡◌, ◌<◌, ◌≤◌, ◌+◌, ℕ, true, List, length, take, get_or, None, refl, sym, subst, ap, ◌∙◌, arith}
+use Rattle.std.proofs.Common.{rules, ◌≡◌, ◌<◌, ◌≤◌, ℕ, true, List, length, take, get_or, None, sym, subst, ap, ◌∙◌, arith}
 use Rattle.std.specs.List.{AllZip}
 use Rattle.std.proofs.lemmas.List.{length-map, get_or_default}
 use Rattle.std.proofs.lemmas.List.Elements.{All-set}
@@ -7,7 +7,6 @@ use Rattle.reduce_states.specs.Moves.{entered, states_at}
 use Rattle.reduce_states.specs.Reductions.{Enters, EntersFront, Gathered}
 use Rattle.reduce_states.proofs.Moved.{get_or-states_at}
 use Rattle.group_reduce.specs.Reducing.{Merges}
-use Rattle.group_reduce.specs.Zips.{AllZip-length}
 use Rattle.group_reduce.proofs.Kept.{on_err, found, stayed, entered_next, entered_all}
 use Rattle.group_reduce.proofs.entering.gather_values.Goals as goal
 

@@ -1,4 +1,4 @@
-use Rattle.std.proofs.Common.{◌≡◌, ◌<◌, ℕ, length, vec_len, slice_get, slice_index_or, IsSomeAnd, ◌∙◌, arith}
+use Rattle.std.proofs.Common.{◌∙◌, arith}
 use Rattle.group_parts.specs.Parts.{dealt}
 use Rattle.group_reduce.specs.Zips.{AllZip-length}
 use Rattle.group_reduce.proofs.Kept.{AllZip-at_place}

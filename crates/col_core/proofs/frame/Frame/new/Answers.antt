@@ -6,4 +6,4 @@ use Rattle.col_core.proofs.frame.Frame.new.Goals as goal
 pub from_columns-requires : goal.from_columns-requires
 from_columns-requires c =
     let none : frame_refusal c.args.schema c.args.columns.items ≡ None = search rules in
-    rw (c.height_of-height.ensures, c.deref-2.ensures.value) (accepted c.args.schema c.args.columns.items c.in_ok-columns.columns.items none c.in_ok-columns.ensures.headers c.in_ok-columns.ensures.values)
+    rw (c.height_of-height.ensures, c.deref-2.ensures.value) (accepted c.args.schema c.args.columns.items c.in_ok-columns.columns.items none c.in_ok-columns.ensures.headers c.in_ok-columns.ensures.values c.in_ok-columns.ensures.fits)

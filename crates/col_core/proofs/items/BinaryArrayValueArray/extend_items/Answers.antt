@@ -2,5 +2,5 @@ use Rattle.col_core.specs.declared.leaf.Leaf.TheVariants as leaves
 use Rattle.col_core.proofs.ItemLeaves.{leaves_extended}
 use Rattle.col_core.proofs.items.BinaryArrayValueArray.extend_items.Goals as goal
 
-pub returns : goal.returns
-returns c = leaves_extended c.extended.result (λ b. leaves.Bytes b) c.args.self c.args.source.now c.args.start c.args.len c.extended.ensures
+pub returns-clause-ok : goal.returns-clause-ok
+returns-clause-ok c = leaves_extended c.extend_from_range.result (λ b. leaves.Bytes b) c.args.self.now c.args.source.now c.extend_from_range.new.self c.args.start c.args.len c.extend_from_range.ensures.ok

@@ -17,7 +17,7 @@ loop-chunk-preserved c =
     let here = take count (drop skipped (chunk_leaves chunk)) in
     let after = take (c.loop-chunk.rest - count) (drop (c.loop-chunk.skip - skipped) (leaves_of (drop (i + 1) all))) in
     record {
-      kind = c.loop-chunk.invariant.kind ∙ sym c.in_ok-joined.ensures.kind;
-      so_far = ap (λ (xs : List Leaf). xs ++ after) c.in_ok-joined.ensures.values ∙ append_assoc before here after
+      kind = c.loop-chunk.invariant.kind ∙ sym c.extend_from_range.ensures.kind;
+      so_far = ap (λ (xs : List Leaf). xs ++ after) c.in_ok-extend_from_range.ensures.ok ∙ append_assoc before here after
           ∙ ap (λ (xs : List Leaf). before ++ xs) (sym (joined_more all i chunk c.loop-chunk.skip c.loop-chunk.rest skipped count c.loop-chunk-test.true c.chunk-item.is skips counts)) ∙ c.loop-chunk.invariant.so_far;
     }

@@ -1,9 +1,9 @@
-use Rattle.std.proofs.Common.{◌≡◌, Bool, true, List, length, refl, sym, subst, ap, ◌∙◌}
+use Rattle.std.proofs.Common.{Bool, true, length, refl, sym, subst, ◌∙◌}
 use Rattle.std.specs.List.{AllZip, zip}
 use Rattle.std.proofs.lemmas.List.{length-replicate}
 use Rattle.group_parts.proofs.Places.{length-zip}
 use Rattle.group_reduce.specs.Zips.{AllZip-length}
-use Rattle.group_reduce.specs.Reducing.{AllFit, AreFinished, IsFinished, all_shown}
+use Rattle.group_reduce.specs.Reducing.{AreFinished, IsFinished, all_shown}
 use Rattle.group_reduce.proofs.Kept.{finished_plain, reduced_type-plain}
 use Rattle.group_reduce.proofs.vectors.VecGroupedReductionGroupedReduction.finalize.Goals as goal
 

@@ -1,4 +1,4 @@
-use Rattle.std.proofs.Common.{◌≡◌, length, sym, subst, OnOk, OnErr}
+use Rattle.std.proofs.Common.{sym, subst, OnOk, OnErr}
 use Rattle.std.specs.List.{AllZip}
 use Rattle.reduce_states.specs.Reductions.{Enters, EntersFront, Gathered}
 use Rattle.group_reduce.specs.Reducing.{AllFit, of_kind}

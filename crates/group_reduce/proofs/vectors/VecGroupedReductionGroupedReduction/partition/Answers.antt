@@ -1,4 +1,4 @@
-use Rattle.std.proofs.Common.{rules, ◌≡◌, ◌<◌, ◌≤◌, ℕ, true, List, length, get_or, slice_get, slice_index_or, IsSomeAnd, count_by, ◌==◌, sym, subst, ap, ◌∙◌, arith}
+use Rattle.std.proofs.Common.{◌≡◌, ◌<◌, ◌≤◌, ℕ, true, length, get_or, slice_index_or, ◌==◌, sym, subst, ap, ◌∙◌, arith}
 use Rattle.std.specs.List.{AllZip}
 use Rattle.std.proofs.lemmas.List.{get_or_default}
 use Rattle.std.proofs.lemmas.List.Sums.{count_by-le-length}
@@ -18,8 +18,7 @@ wrap_all-requires-clause-can g c = λ k d lt.
     let list = get_or lists k d in
     let inside : k < length c.args.partition_sizes.now = omega (arith, c.in-Ok.ensures.parts) in
     let here : list.items ≡ dealt k is vs = at_place lists k list (λ l. l.items ≡ dealt k is vs) (c.in-Ok.ensures.ok k inside) (get_or_default lists k d list lt) in
-    let few : length list.items ≤ length vs = omega (arith, ap length here, length-dealt k is vs c.requires.lengths, count_by-le-length (λ (j : ℕ). j == k) is, c.requires.lengths) in
-    (
+    let few : length list.items ≤ length vs = omega (arith, ap length here, length-dealt k is vs c.requires.lengths, count_by-le-length (λ (j : ℕ). j == k) is, c.requires.lengths) in (
       omega (arith, few, c.args.self.small),
       subst (λ us. AllFit g.R.Reducer.fits c.args.self.in_dtype us) (sym here) (All-dealt (λ v. g.R.Reducer.fits c.args.self.in_dtype v ≡ true) k is vs c.args.self.fit),
       c.args.self.served,

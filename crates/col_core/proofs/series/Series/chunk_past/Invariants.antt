@@ -1,7 +1,7 @@
 use Rattle.std.proofs.Common.{◌≡◌, ◌<◌, length, drop}
 use Rattle.col_core.specs.Tables.{leaves_of}
 use Rattle.col_core.specs.Values.{value_at}
-use Rattle.col_core.proofs.series.Series.chunk_at.Given as goal
+use Rattle.col_core.proofs.series.Series.chunk_past.Given as goal
 
 abbrev pub invariant-loop-chunk : goal.invariant-loop-chunk
 invariant-loop-chunk l = record {

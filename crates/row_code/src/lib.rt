@@ -1,0 +1,2 @@
+//! Rows as bytes, and back.
+#![tactic(auto)]
