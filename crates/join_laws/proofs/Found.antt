@@ -11,9 +11,10 @@ use Rattle.chunked_idx_table.specs.Tables.{KeyEntry, ProbeTable}
 use Rattle.hash_keys.specs.Keys.{Key}
 use Rattle.join_laws.specs.Deals.{build_row, chunk, frame_keys, inserted, is_key, keys_join, null_positions, partners, positions_where, table_keys, table_positions}
 use Rattle.join_laws.specs.Locals.{at_key}
-use Rattle.join_laws.specs.Pairs.{Pair, pairs_with, probed_pairs}
+use Rattle.join_laws.specs.declared.Pair.{Pair}
+use Rattle.join_laws.specs.Pairs.{pairs_with, probed_pairs}
 use Rattle.join_laws.specs.Partitions.{dealt, AreFronts, InPlaces, IsFound, Stands, StandsMore, TableFits, deals, marked_parts, no_table, part_pairs, parts_pairs, places_of, row_of, row_pairs, table_of, tables_of}
-use Rattle.join_laws.specs.Places.{RowPlace}
+use Rattle.join_laws.specs.declared.RowPlace.{RowPlace}
 use Rattle.key_parts.specs.Positions.{Position}
 use Rattle.key_parts.specs.declared.hash.PlRandomState.{PlRandomState}
 use Rattle.join_laws.proofs.Unmatched.{parts_keys}

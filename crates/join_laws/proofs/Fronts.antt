@@ -9,9 +9,9 @@ use Rattle.chunked_idx_table.specs.Probes.{joins_any, keys_at, marked_more}
 use Rattle.chunked_idx_table.specs.Tables.{ProbeTable}
 use Rattle.hash_keys.specs.Keys.{Key}
 use Rattle.join_laws.proofs.Probes.{marked_none, marked_same}
-use Rattle.join_laws.specs.Pairs.{Pair}
+use Rattle.join_laws.specs.declared.Pair.{Pair}
 use Rattle.join_laws.specs.Partitions.{no_table}
-use Rattle.join_laws.specs.Places.{RowPlace}
+use Rattle.join_laws.specs.declared.RowPlace.{RowPlace}
 use Rattle.key_parts.specs.Positions.{Position}
 use Rattle.key_parts.specs.declared.hash.PlRandomState.{PlRandomState}
 use Rattle.list_laws.proofs.Lists.{range_more}

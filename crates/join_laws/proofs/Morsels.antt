@@ -9,9 +9,10 @@ use Rattle.hash_keys.specs.Keys.{Key}
 use Rattle.join_laws.proofs.Found.{gives, parts_found, table_fits, tables_fronts, tables_marked}
 use Rattle.join_laws.proofs.RowOrder.{rows_long}
 use Rattle.join_laws.specs.Deals.{null_positions, table_keys, table_positions}
-use Rattle.join_laws.specs.Pairs.{Pair, probed_pairs}
+use Rattle.join_laws.specs.declared.Pair.{Pair}
+use Rattle.join_laws.specs.Pairs.{probed_pairs}
 use Rattle.join_laws.specs.Partitions.{AreFronts, IsFound, Stands, StandsMore, TableFits, deals, marked_by, marked_parts, no_table, parts_pairs, places_of, table_of, tables_of}
-use Rattle.join_laws.specs.Places.{RowPlace}
+use Rattle.join_laws.specs.declared.RowPlace.{RowPlace}
 use Rattle.key_parts.specs.Positions.{Position}
 use Rattle.key_parts.specs.declared.hash.PlRandomState.{PlRandomState}
 use Rattle.list_laws.proofs.Each.{Each-all}

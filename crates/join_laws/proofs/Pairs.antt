@@ -7,9 +7,10 @@ use Rattle.std.proofs.lemmas.List.Folds.{flat_map-map}
 use mathlib.Core.List.{map-map}
 use Rattle.join_laws.proofs.Deals.{partners_are}
 use Rattle.join_laws.specs.Deals.{all_places, frame_keys, key_at, keys_join}
-use Rattle.join_laws.specs.Places.{RowPlace}
+use Rattle.join_laws.specs.declared.RowPlace.{RowPlace}
 use Rattle.key_parts.specs.Positions.{Position}
-use Rattle.join_laws.specs.Pairs.{Pair, build_at, nested_pairs, pair_row, pairs_with, probed_pairs, with_partners}
+use Rattle.join_laws.specs.declared.Pair.{Pair}
+use Rattle.join_laws.specs.Pairs.{build_at, nested_pairs, pair_row, pairs_with, probed_pairs, with_partners}
 use Rattle.list_laws.proofs.Filters.{filter-flat_map, filter-map, filter_same}
 use Rattle.list_laws.proofs.Maps.{read_all, flat_map_agree, flat_map_same, get_or_map_all, map-flat_map}
 use Rattle.list_laws.proofs.Ranges.{Each-range}

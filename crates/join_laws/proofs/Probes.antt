@@ -13,9 +13,9 @@ use Rattle.chunked_idx_table.specs.Replies.{processed}
 use Rattle.chunked_idx_table.specs.Tables.{KeyEntry, ProbeTable}
 use Rattle.hash_keys.specs.Keys.{Key}
 use Rattle.join_laws.specs.Deals.{keys_join}
-use Rattle.join_laws.specs.Pairs.{Pair}
+use Rattle.join_laws.specs.declared.Pair.{Pair}
 use Rattle.join_laws.specs.Partitions.{FitsPlaces, InPlaces, TableFits, part_pairs, reply_pairs, row_of, row_pairs}
-use Rattle.join_laws.specs.Places.{RowPlace}
+use Rattle.join_laws.specs.declared.RowPlace.{RowPlace}
 use Rattle.key_parts.specs.Positions.{Position}
 use Rattle.key_parts.specs.declared.hash.PlRandomState.{PlRandomState}
 use Rattle.list_laws.proofs.Each.{Each-append, Each-weaker}

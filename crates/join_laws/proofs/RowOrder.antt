@@ -10,9 +10,9 @@ use mathlib.Core.List.{map-map}
 use Rattle.std.proofs.lemmas.List.FromFn.{get_or-map-range_with_len, length-map-range_with_len}
 use Rattle.hash_keys.specs.Gathered.{bumped, numbered}
 use Rattle.hash_keys.specs.Keys.{Key}
-use Rattle.join_laws.specs.Pairs.{Pair}
+use Rattle.join_laws.specs.declared.Pair.{Pair}
 use Rattle.join_laws.specs.Partitions.{dealt, AtPair, IsFound, is_of, is_row, no_pair, pair_at}
-use Rattle.join_laws.specs.Places.{RowPlace}
+use Rattle.join_laws.specs.declared.RowPlace.{RowPlace}
 use Rattle.key_parts.specs.Positions.{Position}
 use Rattle.key_parts.specs.declared.hash.PlRandomState.{PlRandomState}
 use Rattle.list_laws.proofs.Buckets.{all_bucketed}
@@ -150,11 +150,11 @@ module _ (pt cnt : ℕ → ℕ) (g : ℕ → List Pair) (found : List (List Pair
       inside = Each-map (AtPair found) (λ j. record { chunk = pt i; row = j }) (range_with_len (next (pt i)) (cnt i)) (Each-range _ (next (pt i)) (cnt i) (λ k l m. omega (arith, ap length here, length-append (g i) (flat_map g (filter (λ j. eqb (pt j) (pt i)) is)), length-drop (next (pt i)) (get_or found (pt i) []), c.0)))
 
       step : (p : ℕ) → drop (bumped next (pt i) (cnt i) p) (get_or found p []) ≡ flat_map g (filter (λ j. eqb (pt j) p) is)
-      step p = elim (cases_Bool (eqb p (pt i))) [
+      step p = elim (cases_Bool (eqb (pt i) p)) [
         | inl same ↦
-            let at : p ≡ pt i = eqb-true p (pt i) same in
+            let at : p ≡ pt i = sym (eqb-true (pt i) p same) in
             rw same (ap₂ (λ (q n : ℕ). drop (next q + n) (get_or found q [])) at c.0 ∙ drop_past (get_or found (pt i) []) (g i) (flat_map g (filter (λ j. eqb (pt j) (pt i)) is)) (next (pt i)) here ∙ ap (λ r. flat_map g (filter (λ j. eqb (pt j) r) is)) (sym at))
-        | inr other ↦ rw other (h p ∙ skip p (ne_eqb (pt i) p (λ e. eqb-false p (pt i) other (sym e))))
+        | inr other ↦ rw other (h p ∙ skip p other)
       ]
         where
           skip : (p : ℕ) → eqb (pt i) p ≡ false → flat_map g (filter (λ j. eqb (pt j) p) (i ∷ is)) ≡ flat_map g (filter (λ j. eqb (pt j) p) is)

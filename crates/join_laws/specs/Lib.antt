@@ -1,6 +1,5 @@
 pub mod Locals
 pub mod Steps
-pub mod Places
 pub mod Deals
 pub mod Pairs
 pub mod Inserts

@@ -9,10 +9,10 @@ use Rattle.chunked_idx_table.specs.Tables.{ProbeTable, empty_table}
 use Rattle.chunked_idx_table.specs.Inserts.{with_chunk}
 use Rattle.chunked_idx_table.specs.Probes.{matches, marked_more, joins_any, items, keys_at}
 use Rattle.list_laws.specs.Each.{Each}
-use Rattle.join_laws.specs.Places.{RowPlace}
+use Rattle.join_laws.specs.declared.RowPlace.{RowPlace}
 use Rattle.join_laws.specs.Deals.{table_keys, table_positions, null_positions, key_at, all_places}
 use Rattle.join_laws.specs.Outer.{is_outer}
-use Rattle.join_laws.specs.Pairs.{Pair}
+use Rattle.join_laws.specs.declared.Pair.{Pair}
 
 -- the rows of a list of keys that are of partition p, and these lists for each of n partitions
 abbrev pub dealt : (Key → ℕ) → ℕ → List Key → List ℕ
