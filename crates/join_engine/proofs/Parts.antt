@@ -15,6 +15,8 @@ use Rattle.join_query.specs.declared.error.QueryError.{QueryError}
 use Rattle.join_query.specs.declared.error.QueryError.TheVariants.{NoKeyColumns, UnknownColumn, SchemaMismatch, UnsupportedReduction, UnsupportedFilter, BadPlan, TooLarge, NotBuilt}
 use Rattle.join_query.specs.declared.query.Query.{Query}
 use Rattle.join_query.specs.declared.query.ColumnRef.{ColumnRef}
+use Rattle.join_query.specs.declared.query.Plan.{Plan}
+use Rattle.join_query.specs.declared.limits.TheConstants.{MAX_ROWS}
 use Rattle.join_model.specs.Refusals.{have_same_types, has_mixed_filter, is_empty, lacks_keys, unknown_column, repeats_name, has_other_frame, schemas_differ, unsupported_reduction, filter_is_unsupported, is_good_plan, is_int64, is_key_not_built, is_group_type, is_group_not_built, is_one_sum, is_not_built, is_too_large, when, first_of, checked_refusal}
 use Rattle.join_model.specs.ColumnRefs.{schema_of}
 use Rattle.join_engine.specs.Places.{AllHave}
@@ -55,9 +57,9 @@ one_column q [] e h = absurd (false≢true (sym e))
 one_column q (g ∷ []) e h = known_group (type_named g.name (schema_of q g.side)) h
 one_column q (g ∷ y ∷ refs) e h = absurd (grind arith)
 
-absent : {X : Type 0} (o : Option X) → is_some o ≡ false → o ≡ None
-absent None h = refl
-absent (Some x) h = absurd (false≢true (sym h))
+-- a good plan bounds the joined list
+few_rows : (plan : Plan) → is_good_plan plan ≡ true → plan.rows ≤ MAX_ROWS
+few_rows plan h = grind arith
 
 -- a cause that there is not, and causes of which none is the first
 unmet : (b : Bool) (e : QueryError) → when b e ≡ None → b ≡ false
@@ -95,6 +97,8 @@ module _ (q : Query) (build probe : List Table) where
   pub record HasNoCause : Type 0 where
     pub keys : lacks_keys q ≡ false
     pub schemas : schemas_differ q build probe ≡ false
+    pub filter : filter_is_unsupported q ≡ false
+    pub plan : not (is_good_plan q.plan) ≡ false
     pub built : is_not_built q ≡ false
     pub sizes : (is_too_large build || is_too_large probe) ≡ false
 
@@ -108,7 +112,7 @@ module _ (q : Query) (build probe : List Table) where
       let plan = no_first (when (not (is_good_plan q.plan)) BadPlan) from_built filter.1 in
       let built = no_first (when (is_not_built q) NotBuilt) from_size plan.1 in
       let size = no_first (when (is_too_large build || is_too_large probe) TooLarge) [] built.1 in
-      record { keys = unmet _ NoKeyColumns keys.0; schemas = unmet _ SchemaMismatch schemas.0; built = unmet _ NotBuilt built.0; sizes = unmet _ TooLarge size.0 }
+      record { keys = unmet _ NoKeyColumns keys.0; schemas = unmet _ SchemaMismatch schemas.0; filter = unmet _ UnsupportedFilter filter.0; plan = unmet _ BadPlan plan.0; built = unmet _ NotBuilt built.0; sizes = unmet _ TooLarge size.0 }
 
   -- what is not refused has the parts that the engine rests on, and sides that are not too large
   pub simple_parts : checked_refusal q build probe ≡ None → IsSimple q build probe
@@ -122,8 +126,7 @@ module _ (q : Query) (build probe : List Table) where
       let build_frames = neither (repeats_name q.build_schema || repeats_name q.probe_schema) (has_other_frame q.build_schema build) probe_frames.0 in
       let sum = neither _ (not (is_one_sum q q.reductions)) none.built in
       let group = neither _ (is_group_not_built q q.group_keys) sum.0 in
-      let filter = neither _ (is_some q.filter) group.0 in
-      let keep_build = neither _ q.keep_build filter.0 in
+      let keep_build = neither _ q.keep_build group.0 in
       let keep_probe = neither _ q.keep_probe keep_build.0 in
       let null_equal = neither _ q.null_equal keep_probe.0 in
       let built_keys = neither (is_key_not_built q.build_schema q.build_keys) (is_key_not_built q.probe_schema q.probe_keys) null_equal.0 in
@@ -135,7 +138,9 @@ module _ (q : Query) (build probe : List Table) where
         null_equal = null_equal.1;
         keep_probe = keep_probe.1;
         keep_build = keep_build.1;
-        no_filter = absent q.filter filter.1;
+        integers = none.filter;
+        one_type = mixed.1;
+        few = few_rows q.plan (not-false (is_good_plan q.plan) none.plan);
         group = one_column q q.group_keys groups.1 group.1;
         sum = not-false (is_one_sum q q.reductions) sum.1;
       }

@@ -1,5 +1,5 @@
--- What the loops of the engine rest on: an inner join on one key, without a filter, with one group key and one sum.
-use Rattle.std.specs.Prelude.{◌≡◌, ◌<◌, length, ℕ, Bool, true, false, List, [], ◌∷◌, None, is_some}
+-- What the loops of the engine rest on: an inner join on one key, with one group key and one sum.
+use Rattle.std.specs.Prelude.{◌≡◌, ◌<◌, ◌≤◌, length, ℕ, Bool, true, false, List, [], ◌∷◌, is_some}
 use Rattle.col_core.specs.declared.schema.Field.{Field}
 use Rattle.col_core.specs.Values.{value_at}
 use Rattle.col_core.specs.Tables.{Row, Table}
@@ -7,7 +7,8 @@ use Rattle.col_core.specs.Schemas.{type_named}
 use Rattle.join_query.specs.declared.query.Query.{Query}
 use Rattle.join_query.specs.declared.query.ColumnRef.{ColumnRef}
 use Rattle.join_model.specs.Keys.{tuple}
-use Rattle.join_model.specs.Refusals.{is_one_sum}
+use Rattle.join_query.specs.declared.limits.TheConstants.{MAX_ROWS}
+use Rattle.join_model.specs.Refusals.{is_one_sum, filter_is_unsupported, has_mixed_filter}
 use Rattle.join_model.specs.ColumnRefs.{schema_of}
 use Rattle.join_engine.specs.Places.{AllHave}
 
@@ -30,7 +31,9 @@ pub record IsSimple (q : Query) (build probe : List Table) : Type 0 where
   pub null_equal : q.null_equal ≡ false
   pub keep_probe : q.keep_probe ≡ false
   pub keep_build : q.keep_build ≡ false
-  pub no_filter : q.filter ≡ None
+  pub integers : filter_is_unsupported q ≡ false
+  pub one_type : has_mixed_filter q ≡ false
+  pub few : q.plan.rows ≤ MAX_ROWS
   pub group : is_one_column q q.group_keys ≡ true
   pub sum : is_one_sum q q.reductions ≡ true
 

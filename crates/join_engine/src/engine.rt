@@ -1,15 +1,18 @@
 //! The join as a whole.
-ghost use Rattle.std.specs.Prelude.{◌≡◌, ◌⊎◌, IfOk, IfErr, IsOk, true, false};
-ghost use Rattle.join_model.specs.Answers.{answer_rows, answer_groups};
-ghost use Rattle.join_model.specs.Refusals.{checked_refusal, refusal_of, is_too_large, lists_too_many};
+ghost use Rattle.std.specs.Prelude.{◌≡◌, ◌≤◌, ◌⊎◌, length, filter, IfOk, IfErr, IsOk, true, false};
+ghost use Rattle.join_query.specs.declared.limits.TheConstants.{MAX_ROWS};
+ghost use Rattle.join_model.specs.Answers.{joined_schema, answer_rows, answer_groups};
+ghost use Rattle.join_model.specs.Filtered.{passes};
+ghost use Rattle.join_model.specs.Refusals.{filter_is_unsupported, has_mixed_filter, checked_refusal, refusal_of, is_too_large, lists_too_many};
 ghost use Rattle.join_engine.specs.Simple.{IsSimple};
 
 use crate::grouping::group_frame;
 use crate::pairs::{ProbeError, join_rows, joined_pairs};
 use col_core::Frame;
 use join_model::{Query, QueryError};
+use join_pairs::filter_rows;
 use query_check::check_query;
-use std::alloc::Global;
+use std::alloc::{AllocError, Global};
 use std::sync::ledger::Ledger;
 use step_count::Steps;
 
@@ -35,6 +38,22 @@ pub struct Answer {
     pub groups: Frame,
 }
 
+// The joined rows that pass the filter. Where there is none, the rows are handed back as they are.
+#[tactic(auto, using(crate::proofs::JoinedRows::all_kept))]
+fn passing(alloc: Global, query: &Query, rows: Frame) -> Result<Frame, AllocError>
+    requires joined { rows.schema ≡ joined_schema query.now }
+    requires integers { filter_is_unsupported query.now ≡ false }
+    requires one_type { has_mixed_filter query.now ≡ false }
+    requires few { length rows.rows ≤ MAX_ROWS }
+    ensures schema { IfOk result (λ f. f.schema ≡ joined_schema query.now) }
+    ensures rows { IfOk result (λ f. f.rows ≡ filter (passes query.now) rows.rows) }
+{
+    match &query.filter {
+        Some(_) => filter_rows(alloc, query, &rows),
+        None => Ok(rows),
+    }
+}
+
 // The answer to a simple query whose sides are not too large.
 fn simple_answer(
     alloc: Global,
@@ -51,7 +70,8 @@ fn simple_answer(
     ensures refused { IfErr result (λ e. (e ≡ QueryError.Memory) ⊎ ((e ≡ QueryError.TooLarge) × (lists_too_many query.now build.now probe.now ≡ true))) }
 {
     let pairs = joined_pairs(alloc, query, build, probe)?;
-    let rows = join_rows(alloc, query, build, probe, &pairs)?;
+    let joined = join_rows(alloc, query, build, probe, &pairs)?;
+    let rows = passing(alloc, query, joined)?;
     let groups = group_frame(alloc, query, &rows)?;
     Ok(Answer { rows, groups })
 }

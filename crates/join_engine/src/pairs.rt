@@ -154,6 +154,7 @@ pub fn joined_pairs(
     ensures rows { IfOk result (λ v. map (pair_row probe.now build.now) v.items ≡ joined_rows query.now (rows_of build.now) (rows_of probe.now)) }
     ensures inside { IfOk result (λ v. All (IsPair probe.now build.now) v.items) }
     ensures few { IfOk result (λ v. lists_too_many query.now build.now probe.now ≡ false) }
+    ensures short { IfOk result (λ v. length v.items ≤ query.now.plan.rows) }
     ensures refused { IfErr result (λ e. (e ≡ ProbeError.Memory) ⊎ (lists_too_many query.now build.now probe.now ≡ true)) }
 {
     let build_rows = keyed_side(

@@ -1,5 +1,5 @@
 -- The first cause for which a query and its frames are refused.
-use Rattle.std.specs.Prelude.{ℕ, ◌%◌, ◌==◌, nat_lt, nat_le, Bool, true, false, ◌||◌, ◌&&◌, not, if◌then◌else◌, List, [], ◌∷◌, map, length, Option, Some, None, position, is_some}
+use Rattle.std.specs.Prelude.{ℕ, ◌%◌, ◌==◌, nat_lt, nat_le, Bool, true, false, ◌||◌, ◌&&◌, not, if◌then◌else◌, List, [], ◌∷◌, map, length, Option, Some, None, position}
 use Rattle.std.specs.List.{list_any}
 use Rattle.std.specs.Option.{option_map_or, option_map}
 use Rattle.std.specs.Str.{bytes_eq}
@@ -133,10 +133,10 @@ abbrev pub is_one_sum : Query → List Reduction → Bool
 is_one_sum q (r ∷ []) = is_sum r.kind && is_int64 (ref_type q r.column)
 is_one_sum q _ = false
 
--- what the engine does not answer today: other join keys, kept rows, a filter, other group keys, other reductions
+-- what the engine does not answer today: other join keys, kept rows, other group keys, other reductions
 abbrev pub is_not_built : Query → Bool
 is_not_built q = is_key_not_built q.build_schema q.build_keys || is_key_not_built q.probe_schema q.probe_keys
-    || q.null_equal || q.keep_probe || q.keep_build || is_some q.filter
+    || q.null_equal || q.keep_probe || q.keep_build
     || is_group_not_built q q.group_keys || not (is_one_sum q q.reductions)
 
 -- a side has 2^31 or more frames or rows

@@ -145,7 +145,6 @@ fn is_not_built(query: &Query) -> bool
         || query.null_equal
         || query.keep_probe
         || query.keep_build
-        || query.filter.is_some()
         || is_group_not_built(query, query.group_keys.as_slice())
         || !is_one_sum(query, query.reductions.as_slice())
 }

@@ -1,0 +1,1 @@
+pub use Rattle.join_model.specs.Filtered

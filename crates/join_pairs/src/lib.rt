@@ -1,0 +1,6 @@
+//! The joined rows that pass the filter.
+#![tactic(auto)]
+
+mod filter;
+
+pub use filter::filter_rows;
