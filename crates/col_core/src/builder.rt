@@ -60,7 +60,12 @@ impl ColumnBuilder {
     #[tactic(auto, using(crate::proofs::Leaves::grows))]
     pub fn push_ref(&mut self, value: LeafRef<'_>) -> Result<(), AllocError>
         requires { Fits self.old.dtype (lent_leaf value) }
-        ensures ok { OnOk result (self.new ≡ record { dtype = self.old.dtype; values = self.old.values ++ lent_leaf value.entry ∷ [] }) }
+        ensures ok { OnOk result
+            (self.new ≡
+            record {
+              dtype = self.old.dtype;
+              values = self.old.values ++ lent_leaf value.entry ∷ [];
+            }) }
         ensures err { OnErr result (self.new ≡ self.old) }
     {
         self.chunk.push_ref(value)?;
@@ -70,7 +75,9 @@ impl ColumnBuilder {
     /// Appends a value that fits the type. After `Err` the column is as it was.
     pub fn push_leaf(&mut self, value: &Leaf) -> Result<(), AllocError>
         requires { Fits self.old.dtype value.now }
-        ensures ok { OnOk result (self.new ≡ record { dtype = self.old.dtype; values = self.old.values ++ value.now ∷ [] }) }
+        ensures ok { OnOk result
+            (self.new ≡
+            record { dtype = self.old.dtype; values = self.old.values ++ value.now ∷ [] }) }
         ensures err { OnErr result (self.new ≡ self.old) }
     {
         self.push_ref(value.as_ref())
@@ -82,7 +89,12 @@ impl ColumnBuilder {
     pub fn push_from(&mut self, source: &Series, i: usize) -> Result<(), AllocError>
         requires same_type { source.now.dtype ≡ self.old.dtype }
         requires in_bounds { i < length source.now.values }
-        ensures ok { OnOk result (self.new ≡ record { dtype = self.old.dtype; values = self.old.values ++ value_at source.now.values i ∷ [] }) }
+        ensures ok { OnOk result
+            (self.new ≡
+            record {
+              dtype = self.old.dtype;
+              values = self.old.values ++ value_at source.now.values i ∷ [];
+            }) }
         ensures err { OnErr result (self.new ≡ self.old) }
     {
         let (chunk, place) = source.chunk_at(i);
@@ -101,7 +113,12 @@ impl ColumnBuilder {
     ) -> Result<(), AllocError>
         requires same_type { source.now.dtype ≡ self.old.dtype }
         requires in_bounds { start + len ≤ length source.now.values }
-        ensures ok { OnOk result (self.new ≡ record { dtype = self.old.dtype; values = self.old.values ++ take len (drop start source.now.values) }) }
+        ensures ok { OnOk result
+            (self.new ≡
+            record {
+              dtype = self.old.dtype;
+              values = self.old.values ++ take len (drop start source.now.values);
+            }) }
         ensures err { OnErr result (self.new ≡ self.old) }
     {
         source.append_range(&mut self.chunk, start, len)?;
@@ -110,7 +127,8 @@ impl ColumnBuilder {
 
     /// The column, in one chunk.
     pub fn finish(self, alloc: Global, name: Name) -> Result<Series, AllocError>
-        ensures { IfOk result (λ s. s ≡ record { name = name; dtype = self.dtype; values = self.values }) }
+        ensures { IfOk result
+            (λ s. s ≡ record { name = name; dtype = self.dtype; values = self.values }) }
     {
         let ColumnBuilder { dtype, chunk } = self;
         Series::from_chunk(alloc, name, dtype, chunk)

@@ -8,7 +8,7 @@ ghost use Rattle.col_core.specs.Tables.{chunk_leaves, chunk_physical, is_of_kind
 ghost use Rattle.col_core.specs.Values.{value_at, is_null, is_text};
 
 use crate::data_type::{DataType, PhysicalType, same_type};
-use crate::items::{ValueArray, has_bad_text};
+use crate::items::{ValueArray, has_invalid_utf8};
 use crate::leaf::LeafRef;
 use col_arrays::{BinaryArray, BooleanArray, IdxSize, PrimitiveArray};
 use std::alloc::{AllocError, Global};
@@ -152,11 +152,11 @@ impl Chunk {
 
     /// Whether some present item is no text, where the type is one of texts.
     #[tactic(auto, using(crate::proofs::Texts::whole_texts))]
-    pub(crate) fn has_bad_text(&self, dtype: DataType) -> bool
+    pub(crate) fn has_invalid_utf8(&self, dtype: DataType) -> bool
         ensures { result ≡ list_any (λ value. not (is_text dtype value)) (chunk_leaves self.now) }
     {
         match self {
-            Chunk::Bytes(items) => same_type(dtype, DataType::String) && has_bad_text(items),
+            Chunk::Bytes(items) => same_type(dtype, DataType::String) && has_invalid_utf8(items),
             _ => false,
         }
     }
@@ -175,7 +175,8 @@ impl Chunk {
     #[inline(always)]
     pub fn push_ref(&mut self, value: LeafRef<'_>) -> Result<(), AllocError>
         requires { IsKept (chunk_physical self.old) (lent_leaf value) }
-        ensures ok { OnOk result (chunk_leaves self.new ≡ chunk_leaves self.old ++ lent_leaf value.entry ∷ []) }
+        ensures ok { OnOk result
+            (chunk_leaves self.new ≡ chunk_leaves self.old ++ lent_leaf value.entry ∷ []) }
         ensures err { OnErr result (self.new ≡ self.old) }
         ensures kind { chunk_physical self.new ≡ chunk_physical self.old }
     {
@@ -184,7 +185,8 @@ impl Chunk {
 
     /// Appends a null. After `Err` the values are as they were.
     pub fn push_null(&mut self) -> Result<(), AllocError>
-        ensures ok { OnOk result (chunk_leaves self.new ≡ chunk_leaves self.old ++ leaves.Null ∷ []) }
+        ensures ok { OnOk result
+            (chunk_leaves self.new ≡ chunk_leaves self.old ++ leaves.Null ∷ []) }
         ensures err { OnErr result (self.new ≡ self.old) }
         ensures kind { chunk_physical self.new ≡ chunk_physical self.old }
     {
@@ -196,7 +198,9 @@ impl Chunk {
     pub fn push_from(&mut self, source: &Chunk, i: usize) -> Result<(), AllocError>
         requires same_kind { chunk_physical source.now ≡ chunk_physical self.old }
         requires in_bounds { i < length (chunk_leaves source.now) }
-        ensures ok { OnOk result (chunk_leaves self.new ≡ chunk_leaves self.old ++ value_at (chunk_leaves source.now) i ∷ []) }
+        ensures ok { OnOk result
+            (chunk_leaves self.new
+            ≡ chunk_leaves self.old ++ value_at (chunk_leaves source.now) i ∷ []) }
         ensures err { OnErr result (self.new ≡ self.old) }
         ensures kind { chunk_physical self.new ≡ chunk_physical self.old }
     {
@@ -218,7 +222,8 @@ impl Chunk {
     /// The values at indexes, in the order of the indexes.
     pub fn take(&self, alloc: Global, idxs: &[IdxSize]) -> Result<Chunk, AllocError>
         requires { All (λ i. i < length (chunk_leaves self.now)) idxs.now }
-        ensures values { IfOk result (λ taken. chunk_leaves taken ≡ values_at (chunk_leaves self.now) idxs.now) }
+        ensures values { IfOk result
+            (λ taken. chunk_leaves taken ≡ values_at (chunk_leaves self.now) idxs.now) }
         ensures kind { IfOk result (λ taken. chunk_physical taken ≡ chunk_physical self.now) }
     {
         map_array!(self, items => items.take_items(alloc, idxs))
@@ -234,7 +239,9 @@ impl Chunk {
     ) -> Result<(), AllocError>
         requires same_kind { chunk_physical source.now ≡ chunk_physical self.old }
         requires in_bounds { start + len ≤ length (chunk_leaves source.now) }
-        ensures ok { OnOk result (chunk_leaves self.new ≡ chunk_leaves self.old ++ take len (drop start (chunk_leaves source.now))) }
+        ensures ok { OnOk result
+            (chunk_leaves self.new
+            ≡ chunk_leaves self.old ++ take len (drop start (chunk_leaves source.now))) }
         ensures err { OnErr result (self.new ≡ self.old) }
         ensures kind { chunk_physical self.new ≡ chunk_physical self.old }
     {

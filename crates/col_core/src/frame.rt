@@ -27,7 +27,8 @@ impl Model for Frame {
 
     ghost Value = { Table };
 
-    ghost view = { λ f. record { schema = f.schema; rows = rows_from f.height (values_of f.columns.items) } };
+    ghost view = { λ f.
+        record { schema = f.schema; rows = rows_from f.height (values_of f.columns.items) } };
 
     ghost invariant = { λ f. AreColumnsOf f.schema f.columns.items f.height };
 }
@@ -61,9 +62,14 @@ impl Frame {
     /// A frame of columns, each under its field's name. The refusals come in the order of
     /// `FrameError`, the first that holds; a frame without columns has height 0.
     pub fn new(alloc: Global, schema: Schema, columns: Vec<Series>) -> Result<Frame, FrameError>
-        ensures ok { IfOk result (λ f. f ≡ record { schema = schema; rows = rows_from (height_of columns.items) (values_of columns.items) }) }
+        ensures ok { IfOk result
+            (λ f. f ≡ record {
+              schema = schema;
+              rows = rows_from (height_of columns.items) (values_of columns.items);
+            }) }
         ensures accepted { IfOk result (λ _. frame_refusal schema columns.items ≡ None) }
-        ensures refused { IfErr result (λ e. e ≡ unwrap_or (frame_refusal schema columns.items) Memory) }
+        ensures refused { IfErr result
+            (λ e. e ≡ unwrap_or (frame_refusal schema columns.items) Memory) }
     {
         if let Some(refusal) = refusal_of(&schema, &columns) {
             return Err(refusal);
@@ -76,7 +82,8 @@ impl Frame {
     /// A frame of columns that stand under the schema.
     pub fn from_columns(schema: Schema, columns: Vec<Series>, height: usize) -> Frame
         requires { AreColumnsOf schema columns.items height }
-        ensures { result ≡ record { schema = schema; rows = rows_from height (values_of columns.items) } }
+        ensures { result
+            ≡ record { schema = schema; rows = rows_from height (values_of columns.items) } }
     {
         Frame {
             schema,
@@ -123,7 +130,8 @@ impl Frame {
     /// The rows at indexes, in the order of the indexes, each column in one chunk.
     pub fn take(&self, alloc: Global, idxs: &[IdxSize]) -> Result<Frame, AllocError>
         requires in_bounds { All (λ i. i < length self.now.rows) idxs.now }
-        ensures { IfOk result (λ f. f ≡ record { schema = self.now.schema; rows = rows_at self.now.rows idxs.now }) }
+        ensures { IfOk result
+            (λ f. f ≡ record { schema = self.now.schema; rows = rows_at self.now.rows idxs.now }) }
     {
         let mut columns = Vec::new(alloc);
         for column in self.columns() {
@@ -149,7 +157,11 @@ impl Frame {
     /// The `len` rows from `start` on, each column in one chunk.
     pub fn slice(&self, alloc: Global, start: usize, len: usize) -> Result<Frame, AllocError>
         requires in_bounds { start + len ≤ length self.now.rows }
-        ensures { IfOk result (λ f. f ≡ record { schema = self.now.schema; rows = take len (drop start self.now.rows) }) }
+        ensures { IfOk result
+            (λ f. f ≡ record {
+              schema = self.now.schema;
+              rows = take len (drop start self.now.rows);
+            }) }
     {
         let mut columns = Vec::new(alloc);
         for column in self.columns() {
@@ -214,7 +226,8 @@ fn columns_named(
     requires types { IsTrue (has_types schema.now columns.items) }
     ensures headers { IfOk result (λ named. map header named.items ≡ schema.now) }
     ensures values { IfOk result (λ named. values_of named.items ≡ values_of columns.items) }
-    ensures fits { IfOk result (λ named. All (λ column. All (Fits column.dtype) column.values) named.items) }
+    ensures fits { IfOk result
+        (λ named. All (λ column. All (Fits column.dtype) column.values) named.items) }
 {
     let mut named = Vec::new(alloc);
     for column in columns {

@@ -29,7 +29,12 @@ pub fn gather_column(
 ) -> Result<Series, AllocError>
     requires types { All (λ frame. type_at frame.schema column ≡ Some dtype) frames.now }
     requires in_bounds { All (IsPlaceIn frames.now) places.now }
-    ensures { IfOk result (λ s. s ≡ record { name = name; dtype = dtype; values = map (placed_value frames.now column) places.now }) }
+    ensures { IfOk result
+        (λ s. s ≡ record {
+          name = name;
+          dtype = dtype;
+          values = map (placed_value frames.now column) places.now;
+        }) }
 {
     let sources = columns_at(alloc, dtype, frames, column)?;
     let chunk = gather_chunk(alloc, dtype, &sources, places)?;
@@ -44,9 +49,13 @@ fn columns_at<'a>(
     column: usize,
 ) -> Result<Vec<&'a Series>, AllocError>
     requires types { All (λ frame. type_at frame.schema column ≡ Some dtype) frames.now }
-    ensures types { IfOk result (λ sources. All (λ source. source.now.dtype ≡ dtype) sources.items) }
-    ensures fits { IfOk result (λ sources. All (λ source. All (Fits dtype) source.now.values) sources.items) }
-    ensures values { IfOk result (λ sources. map (λ source. source.now.values) sources.items ≡ map (λ frame. column_of column frame.rows) frames.now) }
+    ensures types { IfOk result
+        (λ sources. All (λ source. source.now.dtype ≡ dtype) sources.items) }
+    ensures fits { IfOk result
+        (λ sources. All (λ source. All (Fits dtype) source.now.values) sources.items) }
+    ensures values { IfOk result
+        (λ sources. map (λ source. source.now.values) sources.items ≡ map
+        (λ frame. column_of column frame.rows) frames.now) }
 {
     let mut sources = Vec::with_capacity(alloc, frames.len())?;
     for frame in frames {
@@ -66,7 +75,9 @@ fn gather_chunk(
 ) -> Result<Chunk, AllocError>
     requires types { All (λ source. source.now.dtype ≡ dtype) sources.now }
     requires within { All (IsWithin (map (λ source. source.now.values) sources.now)) places.now }
-    ensures values { IfOk result (λ c. chunk_leaves c ≡ map (picked (map (λ source. source.now.values) sources.now)) places.now) }
+    ensures values { IfOk result
+        (λ c. chunk_leaves c
+        ≡ map (picked (map (λ source. source.now.values) sources.now)) places.now) }
     ensures kind { IfOk result (IsOfKind dtype) }
 {
     match only_chunks(alloc, dtype, sources)? {
@@ -83,8 +94,12 @@ fn only_chunks<'a>(
     sources: &[&'a Series],
 ) -> Result<Option<Vec<&'a Chunk>>, AllocError>
     requires types { All (λ source. source.now.dtype ≡ dtype) sources.now }
-    ensures kinds { IfOk result (λ found. IfSome found (λ chunks. All (λ chunk. IsOfKind dtype chunk.now) chunks.items)) }
-    ensures values { IfOk result (λ found. IfSome found (λ chunks. map (λ chunk. chunk_leaves chunk.now) chunks.items ≡ map (λ source. source.now.values) sources.now)) }
+    ensures kinds { IfOk result
+        (λ found. IfSome found (λ chunks. All (λ chunk. IsOfKind dtype chunk.now) chunks.items)) }
+    ensures values { IfOk result
+        (λ found. IfSome found
+        (λ chunks. map (λ chunk. chunk_leaves chunk.now) chunks.items ≡ map
+        (λ source. source.now.values) sources.now)) }
 {
     let mut chunks = Vec::with_capacity(alloc, sources.len())?;
     for source in sources {
@@ -105,7 +120,9 @@ fn gather_values(
 ) -> Result<Chunk, AllocError>
     requires types { All (λ source. source.now.dtype ≡ dtype) sources.now }
     requires within { All (IsWithin (map (λ source. source.now.values) sources.now)) places.now }
-    ensures values { IfOk result (λ c. chunk_leaves c ≡ map (picked (map (λ source. source.now.values) sources.now)) places.now) }
+    ensures values { IfOk result
+        (λ c. chunk_leaves c
+        ≡ map (picked (map (λ source. source.now.values) sources.now)) places.now) }
     ensures kind { IfOk result (IsOfKind dtype) }
 {
     let mut gathered = Chunk::new(alloc, dtype.physical());
@@ -124,7 +141,10 @@ fn push_picked(
     requires types { All (λ source. source.now.dtype ≡ dtype) sources.now }
     requires within { IsWithin (map (λ source. source.now.values) sources.now) place }
     requires kind { IsOfKind dtype gathered.old }
-    ensures ok { OnOk result (chunk_leaves gathered.new ≡ chunk_leaves gathered.old ++ picked (map (λ source. source.now.values) sources.now) place ∷ []) }
+    ensures ok { OnOk result
+        (chunk_leaves gathered.new
+        ≡ chunk_leaves gathered.old
+        ++ picked (map (λ source. source.now.values) sources.now) place ∷ []) }
     ensures kind { chunk_physical gathered.new ≡ chunk_physical gathered.old }
 {
     match place {
@@ -145,7 +165,9 @@ fn gather_chunks(
 ) -> Result<Chunk, AllocError>
     requires kinds { All (λ chunk. chunk_physical chunk.now ≡ physical) chunks.now }
     requires within { All (IsWithin (map (λ chunk. chunk_leaves chunk.now) chunks.now)) places.now }
-    ensures values { IfOk result (λ c. chunk_leaves c ≡ map (picked (map (λ chunk. chunk_leaves chunk.now) chunks.now)) places.now) }
+    ensures values { IfOk result
+        (λ c. chunk_leaves c
+        ≡ map (picked (map (λ chunk. chunk_leaves chunk.now) chunks.now)) places.now) }
     ensures kind { IfOk result (λ c. chunk_physical c ≡ physical) }
 {
     match physical {
@@ -187,7 +209,9 @@ fn gather_arrays<A: ChunkArray + Drop>(
 ) -> Result<Chunk, AllocError>
     requires kinds { All (λ chunk. chunk_physical chunk.now ≡ A.kind) chunks.now }
     requires within { All (IsWithin (map (λ chunk. chunk_leaves chunk.now) chunks.now)) places.now }
-    ensures values { IfOk result (λ c. chunk_leaves c ≡ map (picked (map (λ chunk. chunk_leaves chunk.now) chunks.now)) places.now) }
+    ensures values { IfOk result
+        (λ c. chunk_leaves c
+        ≡ map (picked (map (λ chunk. chunk_leaves chunk.now) chunks.now)) places.now) }
     ensures kind { IfOk result (λ c. chunk_physical c ≡ A.kind) }
 {
     let mut arrays = Vec::with_capacity(alloc, chunks.len())?;
@@ -204,7 +228,9 @@ fn gather_items<A: ValueArray + Drop>(
     places: &[Option<RowPlace>],
 ) -> Result<A, AllocError>
     requires { All (IsWithin (map (λ source. A.values source.now) sources.now)) places.now }
-    ensures { IfOk result (λ a. A.values a ≡ map (picked (map (λ source. A.values source.now) sources.now)) places.now) }
+    ensures { IfOk result
+        (λ a. A.values a
+        ≡ map (picked (map (λ source. A.values source.now) sources.now)) places.now) }
 {
     let mut gathered = A::empty(alloc);
     for place in places {
@@ -220,7 +246,10 @@ fn push_item_at<A: ValueArray>(
     place: Option<RowPlace>,
 ) -> Result<(), AllocError>
     requires { IsWithin (map (λ source. A.values source.now) sources.now) place }
-    ensures { OnOk result (A.values gathered.new ≡ A.values gathered.old ++ picked (map (λ source. A.values source.now) sources.now) place ∷ []) }
+    ensures { OnOk result
+        (A.values gathered.new
+        ≡ A.values gathered.old
+        ++ picked (map (λ source. A.values source.now) sources.now) place ∷ []) }
 {
     match place {
         Some(place) => gathered.push_item(sources[place.frame as usize], place.row as usize),

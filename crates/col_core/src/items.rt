@@ -56,7 +56,8 @@ pub(crate) trait ValueArray: Sized {
     /// Appends the item at a place of another array. After `Err` the items are as they were.
     fn push_item(&mut self, source: &Self, i: usize) -> Result<(), AllocError>
         requires { i < length (values source.now) }
-        ensures ok { OnOk result (values self.new ≡ values self.old ++ value_at (values source.now) i ∷ []) }
+        ensures ok { OnOk result
+            (values self.new ≡ values self.old ++ value_at (values source.now) i ∷ []) }
         ensures err { OnErr result (self.new ≡ self.old) };
 
     /// The items at indexes.
@@ -67,7 +68,8 @@ pub(crate) trait ValueArray: Sized {
     /// Appends `len` items of another array from `start` on. After `Err` the items are as they were.
     fn extend_items(&mut self, source: &Self, start: usize, len: usize) -> Result<(), AllocError>
         requires { start + len ≤ length (values source.now) }
-        ensures ok { OnOk result (values self.new ≡ values self.old ++ take len (drop start (values source.now))) }
+        ensures ok { OnOk result
+            (values self.new ≡ values self.old ++ take len (drop start (values source.now))) }
         ensures err { OnErr result (self.new ≡ self.old) };
 }
 
@@ -232,8 +234,10 @@ impl ValueArray for BinaryArray {
 
 /// Whether some present item is no text.
 #[tactic(auto, using(crate::proofs::Texts::texts))]
-pub(crate) fn has_bad_text(items: &BinaryArray) -> bool
-    ensures { result ≡ list_any (λ value. not (is_text types.String value)) (map (item_leaf (λ b. leaves.Bytes b)) items.now) }
+pub(crate) fn has_invalid_utf8(items: &BinaryArray) -> bool
+    ensures { result ≡ list_any
+        (λ value. not (is_text types.String value))
+        (map (item_leaf (λ b. leaves.Bytes b)) items.now) }
 {
     for i in 0..items.len() {
         if is_bad_text(items.get(i)) {

@@ -1,5 +1,11 @@
-//! Columns and frames. The bits and arrays that columns are kept in stand in `col_arrays`, and lists in `item_list`; both are
-//! named here too.
+//! Columns and frames.
+//!
+//! A [`Series`] is a name, a type and chunks, and a [`Frame`] columns of one height under a schema.
+//! Contracts see a column as its values and a frame as its rows, whatever the chunks are. What is
+//! promised: each call is its operation on these lists, and [`Series::new`] and [`Frame::new`]
+//! refuse by the first cause of `specs/Refusals`. Begin with `frame.rt` and `builder.rt`;
+//! `specs/Values` says which values a type has. The bits and arrays of `col_arrays` and the list of
+//! `item_list` are re-exported.
 #![tactic(auto)]
 
 mod builder;

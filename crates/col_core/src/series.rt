@@ -31,7 +31,8 @@ impl Model for Series {
 
     ghost Value = { Column };
 
-    ghost view = { λ s. record { name = s.name; dtype = s.dtype; values = leaves_of s.chunks.items } };
+    ghost view = { λ s.
+        record { name = s.name; dtype = s.dtype; values = leaves_of s.chunks.items } };
 
     ghost invariant = { λ s. AreChunksOf s.dtype s.chunks.items };
 }
@@ -59,9 +60,11 @@ impl Series {
         chunks: Vec<Chunk>,
     ) -> Result<Series, ColumnError>
         requires { length (leaves_of chunks.items) < 2 ^ 64 }
-        ensures ok { IfOk result (λ s. s ≡ record { name = name; dtype = dtype; values = leaves_of chunks.items }) }
+        ensures ok { IfOk result
+            (λ s. s ≡ record { name = name; dtype = dtype; values = leaves_of chunks.items }) }
         ensures accepted { IfOk result (λ _. column_refusal dtype chunks.items ≡ None) }
-        ensures refused { IfErr result (λ e. e ≡ unwrap_or (column_refusal dtype chunks.items) Memory) }
+        ensures refused { IfErr result
+            (λ e. e ≡ unwrap_or (column_refusal dtype chunks.items) Memory) }
     {
         know_kept(&chunks);
         match refusal_of(dtype, &chunks) {
@@ -317,7 +320,9 @@ impl Series {
     ) -> Result<(), AllocError>
         requires kind { IsOfKind self.now.dtype target.old }
         requires in_bounds { start + len ≤ length self.now.values }
-        ensures ok { OnOk result (chunk_leaves target.new ≡ chunk_leaves target.old ++ take len (drop start self.now.values)) }
+        ensures ok { OnOk result
+            (chunk_leaves target.new
+            ≡ chunk_leaves target.old ++ take len (drop start self.now.values)) }
         ensures err { OnErr result (target.new ≡ target.old) }
         ensures kind { chunk_physical target.new ≡ chunk_physical target.old }
         ensures fits { All (Fits self.now.dtype) (take len (drop start self.now.values)) }
@@ -341,7 +346,8 @@ impl Series {
     ) -> Result<Series, AllocError>
         requires kind { IsOfKind dtype chunk }
         requires fits { All (Fits dtype) (chunk_leaves chunk) }
-        ensures { IfOk result (λ s. s ≡ record { name = name; dtype = dtype; values = chunk_leaves chunk }) }
+        ensures { IfOk result
+            (λ s. s ≡ record { name = name; dtype = dtype; values = chunk_leaves chunk }) }
     {
         let _count = chunk.len();
         Ok(Series::from_chunks(name, dtype, vec![in alloc; chunk]?))
@@ -365,7 +371,7 @@ fn refusal_of(dtype: DataType, chunks: &[Chunk]) -> Option<ColumnError>
     if has_other_kind(dtype, chunks) {
         return Some(ColumnError::WrongPhysical);
     }
-    if has_bad_text(dtype, chunks) {
+    if has_invalid_utf8(dtype, chunks) {
         return Some(ColumnError::NotUtf8);
     }
     None
@@ -380,11 +386,11 @@ fn has_other_kind(dtype: DataType, chunks: &[Chunk]) -> bool
 
 /// Whether some present item is no text, where the type is one of texts.
 #[tactic(auto, using(crate::proofs::Leaves::bad))]
-fn has_bad_text(dtype: DataType, chunks: &[Chunk]) -> bool
+fn has_invalid_utf8(dtype: DataType, chunks: &[Chunk]) -> bool
     ensures { result ≡ list_any (λ value. not (is_text dtype value)) (leaves_of chunks.now) }
 {
     for chunk in chunks {
-        if chunk.has_bad_text(dtype) {
+        if chunk.has_invalid_utf8(dtype) {
             return true;
         }
     }

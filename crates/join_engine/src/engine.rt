@@ -67,7 +67,9 @@ fn simple_answer(
     ensures rows { IfOk result (λ a. a.rows ≡ answer_rows query.now build.now probe.now) }
     ensures groups { IfOk result (λ a. a.groups ≡ answer_groups query.now build.now probe.now) }
     ensures few { IfOk result (λ _. lists_too_many query.now build.now probe.now ≡ false) }
-    ensures refused { IfErr result (λ e. (e ≡ QueryError.Memory) ⊎ ((e ≡ QueryError.TooLarge) × (lists_too_many query.now build.now probe.now ≡ true))) }
+    ensures refused { IfErr result
+        (λ e. (e ≡ QueryError.Memory)
+        ⊎ ((e ≡ QueryError.TooLarge) × (lists_too_many query.now build.now probe.now ≡ true))) }
 {
     let pairs = joined_pairs(alloc, query, build, probe)?;
     let joined = join_rows(alloc, query, build, probe, &pairs)?;
@@ -93,9 +95,12 @@ pub fn stream_join_aggregate<L: Ledger>(
     ensures rows { IfOk result (λ a. a.rows ≡ answer_rows query.now build.now probe.now) }
     ensures groups { IfOk result (λ a. a.groups ≡ answer_groups query.now build.now probe.now) }
     ensures accepted { IfOk result (λ _. refusal_of query.now build.now probe.now ≡ None) }
-    ensures refused { IfErr result (λ e. (e ≡ QueryError.Memory) ⊎ (refusal_of query.now build.now probe.now ≡ Some e)) }
-    ensures memory { result ≡ Err QueryError.Memory → checked_refusal query.now build.now probe.now ≡ None }
-    ensures complete { refusal_of query.now build.now probe.now ≡ None → IsOk result ⊎ (result ≡ Err QueryError.Memory) }
+    ensures refused { IfErr result
+        (λ e. (e ≡ QueryError.Memory) ⊎ (refusal_of query.now build.now probe.now ≡ Some e)) }
+    ensures memory { result ≡ Err QueryError.Memory
+        → checked_refusal query.now build.now probe.now ≡ None }
+    ensures complete { refusal_of query.now build.now probe.now ≡ None → IsOk result
+        ⊎ (result ≡ Err QueryError.Memory) }
     ensures steps { steps.new ≡ steps.old }
 {
     check_query(query, build, probe)?;

@@ -40,7 +40,9 @@ pub fn gather(
 ) -> Result<(), AllocError>
     requires have { AllHave schema.now frames.now }
     requires places { All (IsPlaceIn frames.now) places.now }
-    ensures { OnOk result (columns.new.items ≡ columns.old.items ++ gathered prefix.now schema.now frames.now places.now) }
+    ensures { OnOk result
+        (columns.new.items
+        ≡ columns.old.items ++ gathered prefix.now schema.now frames.now places.now) }
 {
     for c in 0..schema.len() {
         columns.push(gathered_column(alloc, prefix, schema, frames, places, c)?)?;
@@ -70,7 +72,11 @@ pub fn frame_of_columns(
     height: usize,
 ) -> Result<Frame, AllocError>
     requires { All (λ c. length c.values ≡ height) columns.items }
-    ensures { IfOk result (λ f. f ≡ record { schema = map header columns.items; rows = rows_from height (values_of columns.items) }) }
+    ensures { IfOk result
+        (λ f. f ≡ record {
+          schema = map header columns.items;
+          rows = rows_from height (values_of columns.items);
+        }) }
 {
     let schema = schema_of_columns(alloc, &columns)?;
     Ok(Frame::from_columns(schema, columns, height))

@@ -21,7 +21,8 @@ use std::alloc::{AllocError, Global};
 /// The column of joined rows that a reference names. Its side has such a column.
 fn joined_column<'a>(query: &Query, rows: &'a Frame, column: &ColumnRef) -> &'a Series
     requires joined { rows.now.schema ≡ joined_schema query.now }
-    requires known { is_some (type_named column.now.name (schema_of query.now column.now.side)) ≡ true }
+    requires known { is_some (type_named column.now.name (schema_of query.now column.now.side))
+        ≡ true }
     ensures values { result.now.values ≡ map (ref_value query.now column.now) rows.now.rows }
     ensures dtype { result.now.dtype ≡ ref_type query.now column.now }
 {
@@ -62,7 +63,12 @@ fn key_column(
 ) -> Result<Series, AllocError>
     requires single { All (λ k. length k ≡ 1) keys.now }
     requires fits { All (λ k. Fits dtype (value_at k 0)) keys.now }
-    ensures { IfOk result (λ s. s ≡ record { name = name; dtype = dtype; values = map (λ k. value_at k 0) keys.now }) }
+    ensures { IfOk result
+        (λ s. s ≡ record {
+          name = name;
+          dtype = dtype;
+          values = map (λ k. value_at k 0) keys.now;
+        }) }
 {
     let mut built = ColumnBuilder::new(alloc, dtype);
     for k in keys {
@@ -73,7 +79,8 @@ fn key_column(
 
 // Totals, as a column.
 fn total_column(alloc: Global, totals: &[i64], name: Name) -> Result<Series, AllocError>
-    ensures { IfOk result (λ s. s ≡ record { name = name; dtype = Int64; values = map Whole totals.now }) }
+    ensures { IfOk result
+        (λ s. s ≡ record { name = name; dtype = Int64; values = map Whole totals.now }) }
 {
     let mut built = ColumnBuilder::new(alloc, DataType::Int64);
     for z in totals {
@@ -93,7 +100,12 @@ fn totals_frame(
     requires same { length totals.now.keys.items ≡ length totals.now.totals.items }
     requires single { All (λ k. length k ≡ 1) totals.now.keys.items }
     requires fits { All (λ k. Fits dtype (value_at k 0)) totals.now.keys.items }
-    ensures { IfOk result (λ f. f ≡ totals_table (record { name = key; dtype = dtype }) sum totals.now.keys.items totals.now.totals.items) }
+    ensures { IfOk result
+        (λ f. f ≡ totals_table
+        (record {
+          name = key;
+          dtype = dtype;
+        }) sum totals.now.keys.items totals.now.totals.items) }
 {
     let mut columns = Vec::new(alloc);
     columns.push(key_column(alloc, &totals.keys, key, dtype)?)?;
@@ -106,7 +118,11 @@ pub fn group_frame(alloc: Global, query: &Query, rows: &Frame) -> Result<Frame, 
     requires joined { rows.now.schema ≡ joined_schema query.now }
     requires group { is_one_column query.now query.now.group_keys ≡ true }
     requires sum { is_one_sum query.now query.now.reductions ≡ true }
-    ensures { IfOk result (λ f. f ≡ record { schema = group_schema query.now; rows = group_rows query.now rows.now.rows }) }
+    ensures { IfOk result
+        (λ f. f ≡ record {
+          schema = group_schema query.now;
+          rows = group_rows query.now rows.now.rows;
+        }) }
 {
     let group = &query.group_keys.as_slice()[0];
     let reduction = &query.reductions.as_slice()[0];

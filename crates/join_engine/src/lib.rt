@@ -1,4 +1,9 @@
 //! The join: the rows of both sides that join, their groups, and the two answer tables.
+//!
+//! What is promised of [`stream_join_aggregate`]: Ok holds exactly `answer_rows` and
+//! `answer_groups`; each error but `Memory` is the first refusal of the query, with its place; and
+//! a query without a refusal is answered, unless memory runs out. Begin there. The words are in
+//! `join_model`, whose names of queries are re-exported, as is [`check_query`].
 #![tactic(auto)]
 
 mod engine;

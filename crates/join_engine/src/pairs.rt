@@ -66,8 +66,10 @@ fn match_one(
     max_pairs: u64,
 ) -> Result<(), ProbeError>
     ensures ok { OnOk result (out.new.items ≡ out.old.items ++ pairs_of build.now probe.now) }
-    ensures fails { IfErr result (ProbeFails max_pairs (out.old.items ++ pairs_of build.now probe.now)) }
-    ensures within { OnOk result (length out.old.items ≤ max_pairs → length out.new.items ≤ max_pairs) }
+    ensures fails { IfErr result
+        (ProbeFails max_pairs (out.old.items ++ pairs_of build.now probe.now)) }
+    ensures within { OnOk result
+        (length out.old.items ≤ max_pairs → length out.new.items ≤ max_pairs) }
 {
     for b in build {
         if probe.key.is_same(&b.key) && !probe.key.is_null() {
@@ -151,11 +153,14 @@ pub fn joined_pairs(
     requires simple { IsSimple query.now build.now probe.now }
     requires few_build { is_too_large build.now ≡ false }
     requires few_probe { is_too_large probe.now ≡ false }
-    ensures rows { IfOk result (λ v. map (pair_row probe.now build.now) v.items ≡ joined_rows query.now (rows_of build.now) (rows_of probe.now)) }
+    ensures rows { IfOk result
+        (λ v. map (pair_row probe.now build.now) v.items
+        ≡ joined_rows query.now (rows_of build.now) (rows_of probe.now)) }
     ensures inside { IfOk result (λ v. All (IsPair probe.now build.now) v.items) }
     ensures few { IfOk result (λ v. lists_too_many query.now build.now probe.now ≡ false) }
     ensures short { IfOk result (λ v. length v.items ≤ query.now.plan.rows) }
-    ensures refused { IfErr result (λ e. (e ≡ ProbeError.Memory) ⊎ (lists_too_many query.now build.now probe.now ≡ true)) }
+    ensures refused { IfErr result
+        (λ e. (e ≡ ProbeError.Memory) ⊎ (lists_too_many query.now build.now probe.now ≡ true)) }
 {
     let build_rows = keyed_side(
         alloc,
@@ -195,7 +200,11 @@ pub fn join_rows(
     requires build_have { AllHave query.now.build_schema build.now }
     requires probe_have { AllHave query.now.probe_schema probe.now }
     requires pairs { All (IsPair probe.now build.now) pairs.now }
-    ensures { IfOk result (λ f. f ≡ record { schema = joined_schema query.now; rows = map (pair_row probe.now build.now) pairs.now }) }
+    ensures { IfOk result
+        (λ f. f ≡ record {
+          schema = joined_schema query.now;
+          rows = map (pair_row probe.now build.now) pairs.now;
+        }) }
 {
     let probe_places = probe_places(alloc, pairs)?;
     let build_places = build_places(alloc, pairs)?;

@@ -48,7 +48,8 @@ pub fn entries(alloc: Global, keys: &Series, values: &Series) -> Result<Vec<Entr
     requires sum { values.now.dtype ≡ Int64 }
     ensures items { IfOk result (λ v. v.items ≡ entries_of keys.now.values values.now.values) }
     ensures fits { IfOk result (λ v. All (λ e. Fits Int64 e.value) v.items) }
-    ensures keys_fit { IfOk result (λ v. All (λ e. Fits keys.now.dtype (value_at e.key 0)) v.items) }
+    ensures keys_fit { IfOk result
+        (λ v. All (λ e. Fits keys.now.dtype (value_at e.key 0)) v.items) }
 {
     let mut entries = Vec::new(alloc);
     for i in 0..keys.len() {
@@ -59,7 +60,8 @@ pub fn entries(alloc: Global, keys: &Series, values: &Series) -> Result<Vec<Entr
 
 // Where a key stands among keys.
 fn find_key(keys: &[List<Leaf>], key: &List<Leaf>) -> Option<usize>
-    ensures { MatchOption result (list_any (λ s. tuple_eq s key.now) keys.now ≡ false) (IsFoundIn keys.now key.now) }
+    ensures { MatchOption result (list_any (λ s. tuple_eq s key.now) keys.now ≡ false)
+        (IsFoundIn keys.now key.now) }
 {
     for (i, k) in keys.iter().enumerate() {
         if tuple_eq(k.as_slice(), key.as_slice()) {
@@ -90,7 +92,8 @@ fn take_entry(
 ) -> Result<(), AllocError>
     requires fits { Fits Int64 entry.now.value }
     requires same { length keys.old.items ≡ length totals.old.items }
-    ensures ok { OnOk result (TakesEntry entry.now keys.old.items totals.old.items keys.new.items totals.new.items) }
+    ensures ok { OnOk result
+        (TakesEntry entry.now keys.old.items totals.old.items keys.new.items totals.new.items) }
     ensures len { OnOk result (length keys.new.items ≡ length totals.new.items) }
 {
     match find_key(keys, &entry.key) {
@@ -111,7 +114,8 @@ fn take_entry(
 pub fn group_totals(alloc: Global, entries: &[Entry]) -> Result<Totals, AllocError>
     requires { All (λ e. Fits Int64 e.value) entries.now }
     ensures keys { IfOk result (λ t. t.keys.items ≡ keys_of entries.now) }
-    ensures totals { IfOk result (λ t. t.totals.items ≡ map (total_of entries.now) (keys_of entries.now)) }
+    ensures totals { IfOk result
+        (λ t. t.totals.items ≡ map (total_of entries.now) (keys_of entries.now)) }
 {
     let mut keys = Vec::new(alloc);
     let mut totals = Vec::new(alloc);

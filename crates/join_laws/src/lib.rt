@@ -1,4 +1,10 @@
-//! Laws of the join over lists: tables by partition and local states give the nested-loop rows and the groups.
+//! Laws of the join over lists: tables by partition and local states give the nested-loop rows and
+//! the groups.
+//!
+//! There are lemmas alone, and the two structs that they speak of. Begin with `partners_are` in
+//! `proofs/Deals` (a probe by partition finds what a loop over all build rows finds),
+//! `unmatched_sorted` in `proofs/BuildOrder`, and `merged_column` in `proofs/Groups` (local states,
+//! in any order of morsels). The words are in `specs/Deals`, `specs/Partitions` and `specs/Locals`.
 #![tactic(auto)]
 
 use key_parts::IdxSize;

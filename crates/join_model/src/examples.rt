@@ -17,7 +17,8 @@ ghost use Rattle.reduce_model.specs.declared.kind.ReductionKind.TheVariants.{Sum
 /// An inner join: each probe row beside each build row of its key, in build order; groups by first appearance.
 pub fn inner_join_example()
     ensures schema { (answer_rows inner_query customer_frames order_frames).schema ≡
-        field (codes "probe.cust") Int64 ∷ field (codes "probe.amt") Int64 ∷ field (codes "build.id") Int64 ∷ field (codes "build.name") String ∷ [] }
+        field (codes "probe.cust") Int64 ∷ field (codes "probe.amt") Int64
+        ∷ field (codes "build.id") Int64 ∷ field (codes "build.name") String ∷ [] }
     ensures rows { (answer_rows inner_query customer_frames order_frames).rows ≡
         (two_numbers 1 5 ++ customer 1 (codes "Ann"))
         ∷ (two_numbers 1 5 ++ customer 1 (codes "Cy"))
@@ -25,7 +26,8 @@ pub fn inner_join_example()
     ensures group_schema { (answer_groups inner_query customer_frames order_frames).schema ≡
         field (codes "build.name") String ∷ field (codes "sum(probe.amt)") Int64 ∷ [] }
     ensures groups { (answer_groups inner_query customer_frames order_frames).rows ≡
-        (text (codes "Ann") ∷ number 5 ∷ []) ∷ (text (codes "Cy") ∷ number 5 ∷ []) ∷ (text (codes "Bo") ∷ number 1 ∷ []) ∷ [] }
+        (text (codes "Ann") ∷ number 5 ∷ []) ∷ (text (codes "Cy") ∷ number 5 ∷ [])
+        ∷ (text (codes "Bo") ∷ number 1 ∷ []) ∷ [] }
     ensures no_frames { (answer_rows inner_query [] []).rows ≡ [] }
     ensures no_groups { (answer_groups inner_query [] []).rows ≡ [] }
     ensures accepted { refusal_of inner_query customer_frames order_frames ≡ None }
@@ -39,22 +41,35 @@ pub fn outer_join_example()
         ∷ (two_numbers 3 7 ++ Null ∷ Null ∷ [])
         ∷ (Null ∷ Null ∷ customer 2 (codes "Bo")) ∷ [] }
     ensures groups { (answer_groups outer_query customer_frames fewer_orders).rows ≡
-        (text (codes "Ann") ∷ number 5 ∷ []) ∷ (text (codes "Cy") ∷ number 5 ∷ []) ∷ (Null ∷ number 7 ∷ []) ∷ (text (codes "Bo") ∷ number 0 ∷ []) ∷ [] }
+        (text (codes "Ann") ∷ number 5 ∷ []) ∷ (text (codes "Cy") ∷ number 5 ∷ [])
+        ∷ (Null ∷ number 7 ∷ []) ∷ (text (codes "Bo") ∷ number 0 ∷ []) ∷ [] }
 {}
 
 /// A null key joins nothing, unless nulls are equal.
 pub fn null_key_example()
-    ensures rows { (answer_rows null_key_query (table keyed_build (two_numbers 1 10 ∷ two_numbers 2 20 ∷ []) ∷ [])
-        (table keyed_probe (two_numbers 1 1 ∷ (Null ∷ number 2 ∷ []) ∷ two_numbers 2 3 ∷ []) ∷ [])).rows ≡
-        (two_numbers 1 1 ++ two_numbers 1 10) ∷ (Null ∷ number 2 ∷ Null ∷ Null ∷ []) ∷ (two_numbers 2 3 ++ two_numbers 2 20) ∷ [] }
-    ensures groups { (answer_groups null_key_query (table keyed_build (two_numbers 1 10 ∷ two_numbers 2 20 ∷ []) ∷ [])
-        (table keyed_probe (two_numbers 1 1 ∷ (Null ∷ number 2 ∷ []) ∷ two_numbers 2 3 ∷ []) ∷ [])).rows ≡
+    ensures rows { (answer_rows null_key_query
+        (table keyed_build (two_numbers 1 10 ∷ two_numbers 2 20 ∷ []) ∷ [])
+        (table keyed_probe (two_numbers 1 1 ∷ (Null ∷ number 2 ∷ []) ∷ two_numbers 2 3 ∷ [])
+        ∷ [])).rows ≡
+        (two_numbers 1 1 ++ two_numbers 1 10) ∷ (Null ∷ number 2 ∷ Null ∷ Null ∷ [])
+        ∷ (two_numbers 2 3 ++ two_numbers 2 20) ∷ [] }
+    ensures groups { (answer_groups null_key_query
+        (table keyed_build (two_numbers 1 10 ∷ two_numbers 2 20 ∷ []) ∷ [])
+        (table keyed_probe (two_numbers 1 1 ∷ (Null ∷ number 2 ∷ []) ∷ two_numbers 2 3 ∷ [])
+        ∷ [])).rows ≡
         two_numbers 1 10 ∷ (Null ∷ number 0 ∷ []) ∷ two_numbers 2 20 ∷ [] }
-    ensures equal_rows { (answer_rows null_joins_query (table keyed_build (two_numbers 1 10 ∷ two_numbers 2 20 ∷ (Null ∷ number 30 ∷ []) ∷ []) ∷ [])
-        (table keyed_probe (two_numbers 1 1 ∷ (Null ∷ number 2 ∷ []) ∷ two_numbers 2 3 ∷ []) ∷ [])).rows ≡
-        (two_numbers 1 1 ++ two_numbers 1 10) ∷ (Null ∷ number 2 ∷ Null ∷ number 30 ∷ []) ∷ (two_numbers 2 3 ++ two_numbers 2 20) ∷ [] }
-    ensures equal_groups { (answer_groups null_joins_query (table keyed_build (two_numbers 1 10 ∷ two_numbers 2 20 ∷ (Null ∷ number 30 ∷ []) ∷ []) ∷ [])
-        (table keyed_probe (two_numbers 1 1 ∷ (Null ∷ number 2 ∷ []) ∷ two_numbers 2 3 ∷ []) ∷ [])).rows ≡
+    ensures equal_rows { (answer_rows null_joins_query
+        (table keyed_build (two_numbers 1 10 ∷ two_numbers 2 20 ∷ (Null ∷ number 30 ∷ []) ∷ [])
+        ∷ [])
+        (table keyed_probe (two_numbers 1 1 ∷ (Null ∷ number 2 ∷ []) ∷ two_numbers 2 3 ∷ [])
+        ∷ [])).rows ≡
+        (two_numbers 1 1 ++ two_numbers 1 10) ∷ (Null ∷ number 2 ∷ Null ∷ number 30 ∷ [])
+        ∷ (two_numbers 2 3 ++ two_numbers 2 20) ∷ [] }
+    ensures equal_groups { (answer_groups null_joins_query
+        (table keyed_build (two_numbers 1 10 ∷ two_numbers 2 20 ∷ (Null ∷ number 30 ∷ []) ∷ [])
+        ∷ [])
+        (table keyed_probe (two_numbers 1 1 ∷ (Null ∷ number 2 ∷ []) ∷ two_numbers 2 3 ∷ [])
+        ∷ [])).rows ≡
         two_numbers 1 10 ∷ (Null ∷ number 30 ∷ []) ∷ two_numbers 2 20 ∷ [] }
 {}
 
@@ -62,50 +77,125 @@ pub fn null_key_example()
 pub fn filter_example()
     ensures joined { joined_rows filter_query ((number 1 ∷ []) ∷ (number 2 ∷ []) ∷ [])
         (two_numbers 1 5 ∷ (number 2 ∷ Null ∷ []) ∷ two_numbers 2 6 ∷ []) ≡
-        (two_numbers 1 5 ++ number 1 ∷ []) ∷ (number 2 ∷ Null ∷ number 2 ∷ []) ∷ (two_numbers 2 6 ++ number 2 ∷ []) ∷ [] }
-    ensures rows { (answer_rows filter_query (table (field (codes "id") Int64 ∷ []) ((number 1 ∷ []) ∷ (number 2 ∷ []) ∷ []) ∷ [])
-        (table (field (codes "id") Int64 ∷ field (codes "amt") Int64 ∷ []) (two_numbers 1 5 ∷ (number 2 ∷ Null ∷ []) ∷ two_numbers 2 6 ∷ []) ∷ [])).rows ≡
+        (two_numbers 1 5 ++ number 1 ∷ []) ∷ (number 2 ∷ Null ∷ number 2 ∷ [])
+        ∷ (two_numbers 2 6 ++ number 2 ∷ []) ∷ [] }
+    ensures rows { (answer_rows filter_query
+        (table (field (codes "id") Int64 ∷ []) ((number 1 ∷ []) ∷ (number 2 ∷ []) ∷ []) ∷ [])
+        (table (field (codes "id") Int64 ∷ field (codes "amt") Int64 ∷ [])
+        (two_numbers 1 5 ∷ (number 2 ∷ Null ∷ []) ∷ two_numbers 2 6 ∷ []) ∷ [])).rows ≡
         (two_numbers 2 6 ++ number 2 ∷ []) ∷ [] }
-    ensures groups { (answer_groups filter_query (table (field (codes "id") Int64 ∷ []) ((number 1 ∷ []) ∷ (number 2 ∷ []) ∷ []) ∷ [])
-        (table (field (codes "id") Int64 ∷ field (codes "amt") Int64 ∷ []) (two_numbers 1 5 ∷ (number 2 ∷ Null ∷ []) ∷ two_numbers 2 6 ∷ []) ∷ [])).rows ≡
+    ensures groups { (answer_groups filter_query
+        (table (field (codes "id") Int64 ∷ []) ((number 1 ∷ []) ∷ (number 2 ∷ []) ∷ []) ∷ [])
+        (table (field (codes "id") Int64 ∷ field (codes "amt") Int64 ∷ [])
+        (two_numbers 1 5 ∷ (number 2 ∷ Null ∷ []) ∷ two_numbers 2 6 ∷ []) ∷ [])).rows ≡
         two_numbers 2 6 ∷ [] }
 {}
 
 /// An ordinary report: each kind of reduction, over dates and decimals, with a group of nulls.
 pub fn report_example()
     ensures groups { (answer_groups report_query region_frames sales_frames).rows ≡
-        (text (codes "north") ∷ number 1000 ∷ number 19000 ∷ number 19002 ∷ number 19000 ∷ minus 250 ∷ [])
-        ∷ (text (codes "south") ∷ number 1000 ∷ number 18999 ∷ number 19001 ∷ number 19001 ∷ number 1 ∷ [])
+        (text (codes "north") ∷ number 1000 ∷ number 19000 ∷ number 19002 ∷ number 19000 ∷ minus 250
+        ∷ [])
+        ∷ (text (codes "south") ∷ number 1000 ∷ number 18999 ∷ number 19001 ∷ number 19001
+        ∷ number 1 ∷ [])
         ∷ (Null ∷ number 500 ∷ number 19003 ∷ number 19003 ∷ number 19003 ∷ number 500 ∷ []) ∷ [] }
-    ensures names { map (λ f. f.name) (answer_groups report_query region_frames sales_frames).schema ≡
-        codes "build.region" ∷ codes "sum(probe.total)" ∷ codes "min(probe.day)" ∷ codes "max(probe.day)" ∷ codes "first(probe.day)" ∷ codes "last(probe.total)" ∷ [] }
+    ensures names { map
+        (λ f. f.name) (answer_groups report_query region_frames sales_frames).schema ≡
+        codes "build.region" ∷ codes "sum(probe.total)" ∷ codes "min(probe.day)"
+        ∷ codes "max(probe.day)" ∷ codes "first(probe.day)" ∷ codes "last(probe.total)" ∷ [] }
 {}
 
 /// The first refusal, with its kept number, where several causes stand together.
 pub fn refusal_examples()
-    ensures no_keys { refusal_of (record inner_query { group_keys = []; reductions = reduction Sum (probe_column (codes "zzz")) ∷ [] }) customer_frames order_frames ≡ Some NoKeyColumns }
-    ensures unknown_key { refusal_of (record inner_query { build_keys = codes "nope" ∷ [] }) customer_frames order_frames ≡ Some (UnknownColumn 0) }
-    ensures unknown_reduction { refusal_of (record inner_query { reductions = reduction Sum (probe_column (codes "zzz")) ∷ [] }) customer_frames order_frames ≡ Some (UnknownColumn 3) }
-    ensures after_a_literal { refusal_of (record inner_query { filter = Some (record { op = Eq; left = probe_column (codes "amt"); right = Literal (I64 (pos 5)) }); group_keys = probe_column (codes "zzz") ∷ [] }) customer_frames order_frames ≡ Some (UnknownColumn 3) }
-    ensures other_type { refusal_of (record inner_query { build_keys = codes "name" ∷ [] }) customer_frames order_frames ≡ Some SchemaMismatch }
-    ensures other_frame { refusal_of inner_query customer_frames customer_frames ≡ Some SchemaMismatch }
-    ensures repeated_name { refusal_of (record inner_query { probe_schema = orders ++ orders }) [] [] ≡ Some SchemaMismatch }
-    ensures no_sum { refusal_of (record inner_query { probe_schema = field (codes "cust") Int64 ∷ field (codes "amt") Boolean ∷ [] }) [] [] ≡ Some (UnsupportedReduction 0) }
-    ensures filter_of_texts { refusal_of (record inner_query { filter = Some (record { op = Eq; left = build_column (codes "name"); right = Column (build_column (codes "name")) }) }) customer_frames order_frames ≡ Some UnsupportedFilter }
-    ensures bad_plan { refusal_of (record inner_query { plan = record DEFAULT_PLAN { partitions = 0 } }) customer_frames order_frames ≡ Some BadPlan }
-    ensures even_factor { refusal_of (record inner_query { plan = record DEFAULT_PLAN { pseed = 2 } }) customer_frames order_frames ≡ Some BadPlan }
-    ensures too_large { refusal_of (record inner_query { plan = record DEFAULT_PLAN { rows = 2 } }) customer_frames order_frames ≡ Some TooLarge }
-    ensures too_large_unchecked { checked_refusal (record inner_query { plan = record DEFAULT_PLAN { rows = 2 } }) customer_frames order_frames ≡ None }
-    ensures just_fits { refusal_of (record inner_query { plan = record DEFAULT_PLAN { rows = 3 } }) customer_frames order_frames ≡ None }
+    ensures no_keys { refusal_of
+        (record inner_query {
+          group_keys = [];
+          reductions = reduction Sum (probe_column (codes "zzz")) ∷ [];
+        }) customer_frames order_frames ≡ Some NoKeyColumns }
+    ensures unknown_key { refusal_of
+        (record inner_query { build_keys = codes "nope" ∷ [] }) customer_frames order_frames
+        ≡ Some (UnknownColumn 0) }
+    ensures unknown_reduction { refusal_of
+        (record inner_query {
+          reductions = reduction Sum (probe_column (codes "zzz")) ∷ [];
+        }) customer_frames order_frames ≡ Some (UnknownColumn 3) }
+    ensures after_a_literal { refusal_of
+        (record inner_query {
+          filter = Some
+              (record {
+                op = Eq;
+                left = probe_column (codes "amt");
+                right = Literal (I64 (pos 5));
+              });
+          group_keys = probe_column (codes "zzz") ∷ [];
+        }) customer_frames order_frames ≡ Some (UnknownColumn 3) }
+    ensures other_type { refusal_of
+        (record inner_query { build_keys = codes "name" ∷ [] }) customer_frames order_frames
+        ≡ Some SchemaMismatch }
+    ensures other_frame { refusal_of inner_query customer_frames customer_frames
+        ≡ Some SchemaMismatch }
+    ensures repeated_name { refusal_of
+        (record inner_query { probe_schema = orders ++ orders }) [] [] ≡ Some SchemaMismatch }
+    ensures no_sum { refusal_of
+        (record inner_query {
+          probe_schema = field (codes "cust") Int64 ∷ field (codes "amt") Boolean ∷ [];
+        }) [] [] ≡ Some (UnsupportedReduction 0) }
+    ensures filter_of_texts { refusal_of
+        (record inner_query {
+          filter = Some
+              (record {
+                op = Eq;
+                left = build_column (codes "name");
+                right = Column (build_column (codes "name"));
+              });
+        }) customer_frames order_frames
+        ≡ Some UnsupportedFilter }
+    ensures bad_plan { refusal_of
+        (record inner_query { plan = record DEFAULT_PLAN { partitions = 0 } })
+        customer_frames order_frames ≡ Some BadPlan }
+    ensures even_factor { refusal_of
+        (record inner_query { plan = record DEFAULT_PLAN { pseed = 2 } })
+        customer_frames order_frames ≡ Some BadPlan }
+    ensures too_large { refusal_of
+        (record inner_query { plan = record DEFAULT_PLAN { rows = 2 } })
+        customer_frames order_frames ≡ Some TooLarge }
+    ensures too_large_unchecked { checked_refusal
+        (record inner_query { plan = record DEFAULT_PLAN { rows = 2 } })
+        customer_frames order_frames ≡ None }
+    ensures just_fits { refusal_of
+        (record inner_query { plan = record DEFAULT_PLAN { rows = 3 } })
+        customer_frames order_frames ≡ None }
 {}
 
 /// What the engine does not answer today, which comes before the length of the joined list.
 pub fn not_built_examples()
-    ensures kept_rows { refusal_of (record inner_query { keep_probe = true; plan = record DEFAULT_PLAN { rows = 2 } }) customer_frames order_frames ≡ Some NotBuilt }
-    ensures least { refusal_of (record inner_query { reductions = reduction Min (probe_column (codes "amt")) ∷ [] }) customer_frames order_frames ≡ Some NotBuilt }
-    ensures other_sum { refusal_of (record inner_query { probe_schema = field (codes "cust") Int64 ∷ field (codes "amt") Int8 ∷ [] }) [] [] ≡ Some NotBuilt }
-    ensures no_reduction { refusal_of (record inner_query { reductions = [] }) customer_frames order_frames ≡ Some NotBuilt }
-    ensures other_group { refusal_of (record inner_query { probe_schema = orders ++ field (codes "day") Date ∷ []; group_keys = probe_column (codes "day") ∷ [] }) [] [] ≡ Some NotBuilt }
-    ensures other_column { refusal_of (record inner_query { probe_schema = orders ++ field (codes "day") Date ∷ [] }) [] [] ≡ None }
-    ensures two_keys { refusal_of (record inner_query { build_keys = codes "id" ∷ codes "id" ∷ []; probe_keys = codes "cust" ∷ codes "amt" ∷ [] }) customer_frames order_frames ≡ Some NotBuilt }
+    ensures kept_rows { refusal_of
+        (record inner_query {
+          keep_probe = true;
+          plan = record DEFAULT_PLAN { rows = 2 };
+        }) customer_frames order_frames
+        ≡ Some NotBuilt }
+    ensures least { refusal_of
+        (record inner_query {
+          reductions = reduction Min (probe_column (codes "amt")) ∷ [];
+        }) customer_frames order_frames ≡ Some NotBuilt }
+    ensures other_sum { refusal_of
+        (record inner_query {
+          probe_schema = field (codes "cust") Int64 ∷ field (codes "amt") Int8 ∷ [];
+        }) [] [] ≡ Some NotBuilt }
+    ensures no_reduction { refusal_of
+        (record inner_query { reductions = [] }) customer_frames order_frames ≡ Some NotBuilt }
+    ensures other_group { refusal_of
+        (record inner_query {
+          probe_schema = orders ++ field (codes "day") Date ∷ [];
+          group_keys = probe_column (codes "day") ∷ [];
+        }) [] [] ≡ Some NotBuilt }
+    ensures other_column { refusal_of
+        (record inner_query { probe_schema = orders ++ field (codes "day") Date ∷ [] }) [] []
+        ≡ None }
+    ensures two_keys { refusal_of
+        (record inner_query {
+          build_keys = codes "id" ∷ codes "id" ∷ [];
+          probe_keys = codes "cust" ∷ codes "amt" ∷ [];
+        }) customer_frames order_frames ≡ Some NotBuilt }
 {}

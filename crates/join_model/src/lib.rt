@@ -1,4 +1,9 @@
-//! What a query's answer is: the nested-loop rows, the groups, the two answer tables and the first refusal.
+//! What a query's answer is: the nested-loop rows, the groups, the two answer tables and the first
+//! refusal.
+//!
+//! There are definitions alone, and worked answers of them as clauses in `examples.rt`. Begin with
+//! `answer_rows` and `answer_groups` in `specs/Answers`, and with `refusal_of` in `specs/Refusals`.
+//! The names of `join_query` are re-exported.
 #![tactic(auto)]
 
 mod examples;

@@ -1,4 +1,8 @@
-//! Queries and their parts, and why a query is refused: types alone. `join_model` says what a query's answer is.
+//! Queries and their parts, and why a query is refused: types alone.
+//!
+//! [`Query`] is a join with its filter, groups, reductions and [`Plan`]; [`QueryError`] the causes
+//! of a refusal, with the numbers that a program prints; the limits and the default plan are
+//! constants. `join_model` says what a query's answer is. Begin with `query.rt`.
 #![tactic(auto)]
 
 mod error;

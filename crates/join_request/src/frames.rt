@@ -55,9 +55,12 @@ fn wide_rows<'a>(
     rows: &'a [Value],
     width: usize,
 ) -> Result<Vec<&'a [Value]>, RequestError>
-    ensures ok { IfOk result (λ wide. row_views (map (λ row. row.now) wide.items) ≡ map view rows.now) }
+    ensures ok { IfOk result
+        (λ wide. row_views (map (λ row. row.now) wide.items) ≡ map view rows.now) }
     ensures wide { IfOk result (λ _. IsTrue (are_wide width (items_view rows.now))) }
-    ensures err { IfErr result (λ e. (e ≡ RequestError.Memory) ⊎ ((e ≡ RequestError.Shape) × (are_wide width (items_view rows.now) ≡ false))) }
+    ensures err { IfErr result
+        (λ e. (e ≡ RequestError.Memory)
+        ⊎ ((e ≡ RequestError.Shape) × (are_wide width (items_view rows.now) ≡ false))) }
 {
     let mut wide = Vec::with_capacity(alloc, rows.len())?;
     for row in rows {
@@ -72,8 +75,12 @@ fn wide_rows<'a>(
 /// The frame of rows, each of an item for each field. Without a field they are no rows.
 fn frame_of_rows(alloc: Global, schema: &Schema, rows: &[&[Value]]) -> Result<Frame, RequestError>
     requires { IsTrue (are_wide (length schema.now) (rows_view (map (λ row. row.now) rows.now))) }
-    ensures ok { IfOk result (λ frame. option_map (frame_of_rows schema.now) (each (row_of_value schema.now) (rows_view (map (λ row. row.now) rows.now))) ≡ Some frame) }
-    ensures err { IfErr result (Refuses (each (row_of_value schema.now) (rows_view (map (λ row. row.now) rows.now)))) }
+    ensures ok { IfOk result
+        (λ frame. option_map (frame_of_rows schema.now)
+        (each (row_of_value schema.now) (rows_view (map (λ row. row.now) rows.now)))
+        ≡ Some frame) }
+    ensures err { IfErr result
+        (Refuses (each (row_of_value schema.now) (rows_view (map (λ row. row.now) rows.now)))) }
 {
     let mut columns = Vec::new(alloc);
     for i in 0..schema.len() {
@@ -98,10 +105,13 @@ fn read_column(
     i: usize,
     rows: &[&[Value]],
 ) -> Result<Series, RequestError>
-    ensures ok { IfOk result (λ column. each (leaf_in i field.now.dtype) (rows_view (map (λ row. row.now) rows.now)) ≡ Some column.values) }
+    ensures ok { IfOk result
+        (λ column. each (leaf_in i field.now.dtype) (rows_view (map (λ row. row.now) rows.now))
+        ≡ Some column.values) }
     ensures header { IfOk result (λ column. header column ≡ field.now) }
     ensures fits { IfOk result (λ column. All (Fits column.dtype) column.values) }
-    ensures err { IfErr result (Refuses (each (leaf_in i field.now.dtype) (rows_view (map (λ row. row.now) rows.now)))) }
+    ensures err { IfErr result
+        (Refuses (each (leaf_in i field.now.dtype) (rows_view (map (λ row. row.now) rows.now)))) }
 {
     match field.dtype {
         DataType::Boolean => read_values(alloc, &Truths, field, i, rows),
@@ -120,10 +130,13 @@ fn read_values<R: ReadLeaf>(
     rows: &[&[Value]],
 ) -> Result<Series, RequestError>
     requires { field.now.dtype ≡ R.dtype reader.now }
-    ensures ok { IfOk result (λ column. each (leaf_in i field.now.dtype) (rows_view (map (λ row. row.now) rows.now)) ≡ Some column.values) }
+    ensures ok { IfOk result
+        (λ column. each (leaf_in i field.now.dtype) (rows_view (map (λ row. row.now) rows.now))
+        ≡ Some column.values) }
     ensures header { IfOk result (λ column. header column ≡ field.now) }
     ensures fits { IfOk result (λ column. All (Fits column.dtype) column.values) }
-    ensures err { IfErr result (Refuses (each (leaf_in i field.now.dtype) (rows_view (map (λ row. row.now) rows.now)))) }
+    ensures err { IfErr result
+        (Refuses (each (leaf_in i field.now.dtype) (rows_view (map (λ row. row.now) rows.now)))) }
 {
     let mut values = ColumnBuilder::new(alloc, field.dtype);
     for row in rows {
@@ -144,8 +157,11 @@ fn push_item<R: ReadLeaf>(
     i: usize,
 ) -> Result<(), RequestError>
     requires { values.old.dtype ≡ R.dtype reader.now }
-    ensures ok { OnOk result (option_map (grown values.old) (leaf_in i (R.dtype reader.now) (array (items_view row.now))) ≡ Some values.new) }
-    ensures err { IfErr result (Refuses (leaf_in i (R.dtype reader.now) (array (items_view row.now)))) }
+    ensures ok { OnOk result
+        (option_map (grown values.old) (leaf_in i (R.dtype reader.now) (array (items_view row.now)))
+        ≡ Some values.new) }
+    ensures err { IfErr result
+        (Refuses (leaf_in i (R.dtype reader.now) (array (items_view row.now)))) }
 {
     let Some(item) = row.get(i) else {
         return Err(RequestError::Shape);

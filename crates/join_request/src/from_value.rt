@@ -43,8 +43,10 @@ pub fn member_or<T: FromValue>(
     name: &str,
     default: T,
 ) -> Result<T, RequestError>
-    ensures ok { IfOk result (λ found. or_default default T.from_value (get name.now (view object.now)) ≡ Some found) }
-    ensures err { IfErr result (Refuses (or_default default T.from_value (get name.now (view object.now)))) }
+    ensures ok { IfOk result
+        (λ found. or_default default T.from_value (get name.now (view object.now)) ≡ Some found) }
+    ensures err { IfErr result
+        (Refuses (or_default default T.from_value (get name.now (view object.now)))) }
 {
     match object.get(name) {
         Some(value) => T::from_value(alloc, value),

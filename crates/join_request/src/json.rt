@@ -14,7 +14,8 @@ use std::alloc::Global;
 pub fn read_value(alloc: Global, bytes: &[u8]) -> Result<Value, RequestError>
     ensures ok { IfOk result (λ v. value_of bytes.now ≡ Some (view v)) }
     ensures err { IfErr result
-        (λ e. (e ≡ RequestError.Memory) ⊎ ((e ≡ RequestError.NotJson) × (value_of bytes.now ≡ None))) }
+        (λ e. (e ≡ RequestError.Memory)
+        ⊎ ((e ≡ RequestError.NotJson) × (value_of bytes.now ≡ None))) }
 {
     match Value::from_slice(alloc, bytes) {
         Ok(value) => Ok(value),
@@ -67,7 +68,8 @@ fn members_hold_float(members: &Map<String, Value>) -> bool
 
 /// The value itself, where it is an object all of whose members have one of these names.
 pub fn object_named<'a>(value: &'a Value, names: &[&str]) -> Result<&'a Value, RequestError>
-    ensures ok { IfOk result (λ found. object_of (map (λ n. n.now) names.now) (view value.now) ≡ Some (view found.now)) }
+    ensures ok { IfOk result
+        (λ found. object_of (map (λ n. n.now) names.now) (view value.now) ≡ Some (view found.now)) }
     ensures err { IfErr result (Refuses (object_of (map (λ n. n.now) names.now) (view value.now))) }
 {
     match value.as_object() {
@@ -139,7 +141,8 @@ pub fn read_pair(value: &Value) -> Result<(&Value, &Value), RequestError>
 /// The items of a list of three.
 #[tactic(auto, using(crate::proofs::Pairs::no_triples))]
 pub fn read_triple(value: &Value) -> Result<(&Value, &Value, &Value), RequestError>
-    ensures ok { IfOk result (λ t. triple_of (view value.now) ≡ Some (view t.0.now, view t.1.now, view t.2.now)) }
+    ensures ok { IfOk result
+        (λ t. triple_of (view value.now) ≡ Some (view t.0.now, view t.1.now, view t.2.now)) }
     ensures err { IfErr result (Refuses (triple_of (view value.now))) }
 {
     let Some(items) = value.as_array() else {

@@ -30,7 +30,9 @@ pub trait ReadLeaf {
         column: &mut ColumnBuilder,
     ) -> Result<(), RequestError>
         requires { column.old.dtype ≡ dtype self.now }
-        ensures ok { OnOk result (option_map (grown column.old) (leaf_of_value (dtype self.now) (view value.now)) ≡ Some column.new) }
+        ensures ok { OnOk result
+            (option_map (grown column.old) (leaf_of_value (dtype self.now) (view value.now))
+            ≡ Some column.new) }
         ensures err { IfErr result (Refuses (leaf_of_value (dtype self.now) (view value.now))) };
 }
 
@@ -55,7 +57,8 @@ impl ReadLeaf for Truths {
 }
 
 fn truth_of(value: &Value) -> Result<LeafRef<'_>, RequestError>
-    ensures ok { IfOk result (λ leaf. leaf_of_value Boolean (view value.now) ≡ Some (lent_leaf leaf)) }
+    ensures ok { IfOk result
+        (λ leaf. leaf_of_value Boolean (view value.now) ≡ Some (lent_leaf leaf)) }
     ensures err { IfErr result (Refuses (leaf_of_value Boolean (view value.now))) }
     ensures fits { IfOk result (λ leaf. Fits Boolean (lent_leaf leaf)) }
 {
@@ -89,7 +92,8 @@ impl ReadLeaf for Texts {
 }
 
 fn text_of(value: &Value) -> Result<LeafRef<'_>, RequestError>
-    ensures ok { IfOk result (λ leaf. leaf_of_value String (view value.now) ≡ Some (lent_leaf leaf)) }
+    ensures ok { IfOk result
+        (λ leaf. leaf_of_value String (view value.now) ≡ Some (lent_leaf leaf)) }
     ensures err { IfErr result (Refuses (leaf_of_value String (view value.now))) }
     ensures fits { IfOk result (λ leaf. Fits String (lent_leaf leaf)) }
 {
@@ -150,7 +154,8 @@ impl Wholes {
 
     #[tactic(auto, using(crate::proofs::Ranges::wholes))]
     fn leaf_of(self, value: &Value) -> Result<LeafRef<'_>, RequestError>
-        ensures ok { IfOk result (λ leaf. leaf_of_value self.dtype (view value.now) ≡ Some (lent_leaf leaf)) }
+        ensures ok { IfOk result
+            (λ leaf. leaf_of_value self.dtype (view value.now) ≡ Some (lent_leaf leaf)) }
         ensures err { IfErr result (Refuses (leaf_of_value self.dtype (view value.now))) }
         ensures fits { IfOk result (λ leaf. Fits self.dtype (lent_leaf leaf)) }
     {

@@ -26,7 +26,8 @@ pub struct Request {
 /// the last one counts.
 pub fn read_request(alloc: Global, bytes: &[u8]) -> Result<Request, RequestError>
     ensures ok { IfOk result (λ r. request_of bytes.now ≡ Ok r) }
-    ensures refused { IfErr result (λ e. (e ≡ RequestError.Memory) ⊎ (request_of bytes.now ≡ Err e)) }
+    ensures refused { IfErr result
+        (λ e. (e ≡ RequestError.Memory) ⊎ (request_of bytes.now ≡ Err e)) }
 {
     let value = read_value(alloc, bytes)?;
     request_without_floats(alloc, &value)
@@ -34,7 +35,8 @@ pub fn read_request(alloc: Global, bytes: &[u8]) -> Result<Request, RequestError
 
 fn request_without_floats(alloc: Global, value: &Value) -> Result<Request, RequestError>
     ensures ok { IfOk result (λ r. request_without_floats (view value.now) ≡ Ok r) }
-    ensures refused { IfErr result (λ e. (e ≡ RequestError.Memory) ⊎ (request_without_floats (view value.now) ≡ Err e)) }
+    ensures refused { IfErr result
+        (λ e. (e ≡ RequestError.Memory) ⊎ (request_without_floats (view value.now) ≡ Err e)) }
 {
     if holds_float(value) {
         return Err(RequestError::Float);

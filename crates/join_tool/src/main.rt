@@ -1,4 +1,7 @@
 //! The program: answers the request on standard input, and tells on standard error what it refuses.
+//!
+//! `main` makes the three standard streams, takes the words after the program's name, and ends with
+//! the status of [`run_tool`], on whose clauses all rests (`join_command`).
 #![tactic(auto)]
 
 ghost use Rattle.std.specs.Prelude.{◌≡◌, ◌<◌};

@@ -48,7 +48,8 @@ fn is_unknown(query: &Query, column: &ColumnRef) -> bool
 
 // The place of the first name that a side lacks.
 fn unknown_name(query: &Query, side: Side, names: &[Name]) -> Option<usize>
-    ensures place { result ≡ position (λ name. is_unknown query.now (record { side = side; name = name })) names.now }
+    ensures place { result ≡ position
+        (λ name. is_unknown query.now (record { side = side; name = name })) names.now }
     ensures within { IfSome result (λ i. i < length names.now) }
 {
     names

@@ -11,10 +11,13 @@ pub fn sum_examples()
     ensures nulls { fold_of Sum Int64 (Null ∷ number 5 ∷ Null ∷ minus 7 ∷ []) ≡ minus 2 }
     ensures nulls_alone { fold_of Sum Int64 (Null ∷ Null ∷ []) ≡ number 0 }
     ensures no_values { fold_of Sum Int64 [] ≡ number 0 }
-    ensures wraps_in_32_bits { fold_of Sum Int32 (number 2147483647 ∷ number 1 ∷ []) ≡ minus 2147483648 }
-    ensures wraps_in_64_bits { fold_of Sum Int64 (number 9223372036854775807 ∷ number 1 ∷ []) ≡ minus 9223372036854775808 }
+    ensures wraps_in_32_bits { fold_of Sum Int32 (number 2147483647 ∷ number 1 ∷ [])
+        ≡ minus 2147483648 }
+    ensures wraps_in_64_bits { fold_of Sum Int64 (number 9223372036854775807 ∷ number 1 ∷ [])
+        ≡ minus 9223372036854775808 }
     ensures wraps_unsigned { fold_of Sum UInt32 (number 4294967295 ∷ number 2 ∷ []) ≡ number 1 }
-    ensures wraps_unsigned_64 { fold_of Sum UInt64 (number 18446744073709551615 ∷ number 2 ∷ []) ≡ number 1 }
+    ensures wraps_unsigned_64 { fold_of Sum UInt64 (number 18446744073709551615 ∷ number 2 ∷ [])
+        ≡ number 1 }
     ensures small_ones_widen { fold_of Sum Int8 (number 127 ∷ number 127 ∷ []) ≡ number 254 }
     ensures widened_type { reduced_type Sum Int8 ≡ Int64 }
     ensures past_precision { fold_of Sum (Decimal 3 1) (number 999 ∷ number 2 ∷ []) ≡ number 1001 }
@@ -27,8 +30,10 @@ pub fn least_and_greatest_examples()
     ensures greatest { fold_of Max Int64 (minus 5 ∷ Null ∷ minus 3 ∷ []) ≡ minus 3 }
     ensures least_of_nulls { fold_of Min Int64 (Null ∷ Null ∷ []) ≡ Null }
     ensures greatest_of_none { fold_of Max Date [] ≡ Null }
-    ensures least_text { fold_of Min String (text (codes "b") ∷ text (codes "ab") ∷ Null ∷ []) ≡ text (codes "ab") }
-    ensures greatest_text { fold_of Max String (text (codes "a") ∷ text (codes "ab") ∷ text (codes "") ∷ []) ≡ text (codes "ab") }
+    ensures least_text { fold_of Min String (text (codes "b") ∷ text (codes "ab") ∷ Null ∷ [])
+        ≡ text (codes "ab") }
+    ensures greatest_text { fold_of Max String
+        (text (codes "a") ∷ text (codes "ab") ∷ text (codes "") ∷ []) ≡ text (codes "ab") }
     ensures least_truth { fold_of Min Boolean (Bool true ∷ Null ∷ Bool false ∷ []) ≡ Bool false }
     ensures greatest_truth { fold_of Max Boolean (Bool false ∷ Bool true ∷ []) ≡ Bool true }
 {}
@@ -37,7 +42,8 @@ pub fn least_and_greatest_examples()
 pub fn place_examples()
     ensures first { fold_of First Int64 (number 4 ∷ number 5 ∷ []) ≡ number 4 }
     ensures first_null { fold_of First Int64 (Null ∷ number 5 ∷ []) ≡ Null }
-    ensures last { fold_of Last String (text (codes "a") ∷ text (codes "b") ∷ []) ≡ text (codes "b") }
+    ensures last { fold_of Last String (text (codes "a") ∷ text (codes "b") ∷ [])
+        ≡ text (codes "b") }
     ensures last_null { fold_of Last Int64 (number 4 ∷ Null ∷ []) ≡ Null }
     ensures none { fold_of Last Int64 [] ≡ Null }
 {}

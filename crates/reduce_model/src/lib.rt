@@ -1,4 +1,7 @@
 //! Reductions, and what each gives for the values of a group.
+//!
+//! [`ReductionKind`] names them; `fold_of` in `specs/Folds` is the plain fold of each in row order,
+//! and `reduced_type` the type of what it gives. Worked answers stand in `examples.rt`, as clauses.
 #![tactic(auto)]
 
 mod examples;

@@ -32,7 +32,8 @@ pub fn record_text_examples()
     ensures header { records_text (table_records (codes "J")
         (table (field (codes "a,b") Int64 ∷ field (codes "\\c") String ∷ []) [])) ≡
         codes "J,\"a,b\",\\c\n" }
-    ensures no_columns { records_text (table_records (codes "J") (table [] ([] ∷ []))) ≡ codes "J\nJ\n" }
+    ensures no_columns { records_text (table_records (codes "J") (table [] ([] ∷ [])))
+        ≡ codes "J\nJ\n" }
     ensures comma { column_text (text (codes "a,b") ∷ []) ≡ codes "J,k\nJ,\"a,b\"\n" }
     ensures quote { column_text (text (codes "say \"x\"") ∷ []) ≡
         codes "J,k\nJ,\"say \"\"x\"\"\"\n" }

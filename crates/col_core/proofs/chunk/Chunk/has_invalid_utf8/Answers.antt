@@ -1,6 +1,6 @@
 use Rattle.std.proofs.Common.{sym, ◌∙◌}
 use Rattle.col_core.proofs.Texts.{no_bad_bytes, no_bad_text}
-use Rattle.col_core.proofs.chunk.Chunk.has_bad_text.Goals as goal
+use Rattle.col_core.proofs.chunk.Chunk.has_invalid_utf8.Goals as goal
 
 pub returns-else-same_type : goal.returns-else-same_type
 returns-else-same_type c = rw c.in-Bytes.is (c.if-same_type.false ∙ sym (no_bad_bytes c.args.dtype c.in-Bytes.items (sym c.same_type.ensures ∙ c.if-same_type.false)))
