@@ -8,7 +8,7 @@ use Rattle.std.proofs.lemmas.List.Sorted.{sum_by-IsPermutation}
 use Rattle.join_laws.proofs.Unmatched.{counted, outer_places}
 use Rattle.join_laws.specs.Deals.{all_places, frame_keys, key_at, unmatched}
 use Rattle.join_laws.specs.Outer.{is_outer}
-use Rattle.join_laws.specs.declared.RowPlace.{RowPlace}
+use Rattle.col_core.specs.declared.row_place.RowPlace.{RowPlace}
 use Rattle.key_parts.specs.Positions.{Position}
 use Rattle.list_laws.proofs.Ascending.{Rises-append, Rises-filter}
 use Rattle.list_laws.proofs.Each.{Each-filter, Each-flat_map, Each-all, Each-weaker, Each-map}

@@ -17,7 +17,7 @@ use Rattle.join_laws.proofs.Inserts.{entries_all}
 use Rattle.join_laws.specs.Deals.{chunk, inserted, is_key, null_positions, positions_where, present, table_keys, table_positions}
 use Rattle.join_laws.specs.Inserts.{entries_of}
 use Rattle.join_laws.specs.Partitions.{dealt, Stands, deals, no_table, places_of, table_of, tables_of, unmarked, with_parts}
-use Rattle.join_laws.specs.declared.RowPlace.{RowPlace}
+use Rattle.col_core.specs.declared.row_place.RowPlace.{RowPlace}
 use Rattle.key_parts.specs.Positions.{Position}
 use Rattle.key_parts.specs.declared.hash.PlRandomState.{PlRandomState}
 use Rattle.list_laws.proofs.Lists.{get_or_past, made_same, map_same, range_upto}

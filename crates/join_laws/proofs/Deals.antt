@@ -5,7 +5,7 @@ use Rattle.std.specs.List.{list_any, range_with_len}
 use Rattle.std.proofs.lemmas.Bool.{false≢true, eq-eqb}
 use Rattle.join_laws.proofs.Locals.{at_key_map}
 use Rattle.join_laws.specs.Deals.{all_places, build_row, chunk, dealt, frame_keys, inserted, is_key, key_at, keys_join, partners, positions_where, present, table_keys, table_positions}
-use Rattle.join_laws.specs.declared.RowPlace.{RowPlace}
+use Rattle.col_core.specs.declared.row_place.RowPlace.{RowPlace}
 use Rattle.key_parts.specs.Positions.{Position}
 use Rattle.list_laws.proofs.Distinct.{any_distinct}
 use Rattle.list_laws.proofs.Filters.{filter-flat_map, filter_implied, filter-map, filter-absent}

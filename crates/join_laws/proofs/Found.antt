@@ -14,7 +14,7 @@ use Rattle.join_laws.specs.Locals.{at_key}
 use Rattle.join_laws.specs.declared.Pair.{Pair}
 use Rattle.join_laws.specs.Pairs.{pairs_with, probed_pairs}
 use Rattle.join_laws.specs.Partitions.{dealt, AreFronts, InPlaces, IsFound, Stands, StandsMore, TableFits, deals, marked_parts, no_table, part_pairs, parts_pairs, places_of, row_of, row_pairs, table_of, tables_of}
-use Rattle.join_laws.specs.declared.RowPlace.{RowPlace}
+use Rattle.col_core.specs.declared.row_place.RowPlace.{RowPlace}
 use Rattle.key_parts.specs.Positions.{Position}
 use Rattle.key_parts.specs.declared.hash.PlRandomState.{PlRandomState}
 use Rattle.join_laws.proofs.Unmatched.{parts_keys}

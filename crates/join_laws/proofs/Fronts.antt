@@ -11,7 +11,7 @@ use Rattle.hash_keys.specs.Keys.{Key}
 use Rattle.join_laws.proofs.Probes.{marked_none, marked_same}
 use Rattle.join_laws.specs.declared.Pair.{Pair}
 use Rattle.join_laws.specs.Partitions.{no_table}
-use Rattle.join_laws.specs.declared.RowPlace.{RowPlace}
+use Rattle.col_core.specs.declared.row_place.RowPlace.{RowPlace}
 use Rattle.key_parts.specs.Positions.{Position}
 use Rattle.key_parts.specs.declared.hash.PlRandomState.{PlRandomState}
 use Rattle.list_laws.proofs.Lists.{range_more}

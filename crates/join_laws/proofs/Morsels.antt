@@ -12,7 +12,7 @@ use Rattle.join_laws.specs.Deals.{null_positions, table_keys, table_positions}
 use Rattle.join_laws.specs.declared.Pair.{Pair}
 use Rattle.join_laws.specs.Pairs.{probed_pairs}
 use Rattle.join_laws.specs.Partitions.{AreFronts, IsFound, Stands, StandsMore, TableFits, deals, marked_by, marked_parts, no_table, parts_pairs, places_of, table_of, tables_of}
-use Rattle.join_laws.specs.declared.RowPlace.{RowPlace}
+use Rattle.col_core.specs.declared.row_place.RowPlace.{RowPlace}
 use Rattle.key_parts.specs.Positions.{Position}
 use Rattle.key_parts.specs.declared.hash.PlRandomState.{PlRandomState}
 use Rattle.list_laws.proofs.Each.{Each-all}

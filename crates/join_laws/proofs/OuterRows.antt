@@ -17,7 +17,7 @@ use Rattle.join_laws.proofs.Probes.{processed_some}
 use Rattle.join_laws.proofs.Sizes.{table_room}
 use Rattle.join_laws.specs.Deals.{build_row, null_positions, table_keys, table_positions, unmarked_positions, unmatched}
 use Rattle.join_laws.specs.Partitions.{InPlaces, Stands, TableFits, item_rows, no_table, outer_rows, places_of, row_of, table_of, tables_of}
-use Rattle.join_laws.specs.declared.RowPlace.{RowPlace}
+use Rattle.col_core.specs.declared.row_place.RowPlace.{RowPlace}
 use Rattle.key_parts.specs.Positions.{Position}
 use Rattle.key_parts.specs.declared.hash.PlRandomState.{PlRandomState}
 use Rattle.list_laws.proofs.Each.{Each-all, Each-append}

@@ -7,7 +7,7 @@ use Rattle.std.proofs.lemmas.List.Folds.{flat_map-map}
 use mathlib.Core.List.{map-map}
 use Rattle.join_laws.proofs.Deals.{partners_are}
 use Rattle.join_laws.specs.Deals.{all_places, frame_keys, key_at, keys_join}
-use Rattle.join_laws.specs.declared.RowPlace.{RowPlace}
+use Rattle.col_core.specs.declared.row_place.RowPlace.{RowPlace}
 use Rattle.key_parts.specs.Positions.{Position}
 use Rattle.join_laws.specs.declared.Pair.{Pair}
 use Rattle.join_laws.specs.Pairs.{build_at, nested_pairs, pair_row, pairs_with, probed_pairs, with_partners}

@@ -15,7 +15,7 @@ use Rattle.hash_keys.specs.Keys.{Key}
 use Rattle.join_laws.specs.Deals.{keys_join}
 use Rattle.join_laws.specs.declared.Pair.{Pair}
 use Rattle.join_laws.specs.Partitions.{FitsPlaces, InPlaces, TableFits, part_pairs, reply_pairs, row_of, row_pairs}
-use Rattle.join_laws.specs.declared.RowPlace.{RowPlace}
+use Rattle.col_core.specs.declared.row_place.RowPlace.{RowPlace}
 use Rattle.key_parts.specs.Positions.{Position}
 use Rattle.key_parts.specs.declared.hash.PlRandomState.{PlRandomState}
 use Rattle.list_laws.proofs.Each.{Each-append, Each-weaker}

@@ -12,7 +12,7 @@ use Rattle.hash_keys.specs.Gathered.{bumped, numbered}
 use Rattle.hash_keys.specs.Keys.{Key}
 use Rattle.join_laws.specs.declared.Pair.{Pair}
 use Rattle.join_laws.specs.Partitions.{dealt, AtPair, IsFound, is_of, is_row, no_pair, pair_at}
-use Rattle.join_laws.specs.declared.RowPlace.{RowPlace}
+use Rattle.col_core.specs.declared.row_place.RowPlace.{RowPlace}
 use Rattle.key_parts.specs.Positions.{Position}
 use Rattle.key_parts.specs.declared.hash.PlRandomState.{PlRandomState}
 use Rattle.list_laws.proofs.Buckets.{all_bucketed}

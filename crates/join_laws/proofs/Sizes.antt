@@ -12,7 +12,7 @@ use Rattle.join_laws.proofs.Bounds.{length-distinct}
 use Rattle.join_laws.proofs.Parts.{parts_long}
 use Rattle.join_laws.specs.Deals.{chunk, frame_keys, inserted, is_key, present}
 use Rattle.join_laws.specs.Partitions.{dealt, AreBelow, HasRoom, deals, no_table, table_of, tables_of}
-use Rattle.join_laws.specs.declared.RowPlace.{RowPlace}
+use Rattle.col_core.specs.declared.row_place.RowPlace.{RowPlace}
 use Rattle.key_parts.specs.Positions.{Position}
 use Rattle.key_parts.specs.declared.hash.PlRandomState.{PlRandomState}
 use Rattle.list_laws.proofs.Lists.{get_or_past}

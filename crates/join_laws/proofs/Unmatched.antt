@@ -9,7 +9,7 @@ use Rattle.std.proofs.lemmas.List.Sums.{sum_by-append}
 use Rattle.join_laws.proofs.Deals.{found, is_key_is, no_positions}
 use Rattle.join_laws.specs.Deals.{all_places, build_row, chunk, dealt, frame_keys, inserted, is_key, key_at, null_positions, positions_where, present, table_keys, table_positions, unmarked_positions, unmatched}
 use Rattle.join_laws.specs.Outer.{is_outer}
-use Rattle.join_laws.specs.declared.RowPlace.{RowPlace}
+use Rattle.col_core.specs.declared.row_place.RowPlace.{RowPlace}
 use Rattle.key_parts.specs.Positions.{Position}
 use Rattle.list_laws.proofs.Buckets.{all_bucketed}
 use Rattle.list_laws.proofs.Each.{Each-append, Each-flat_map, Each-all, Each-filtered, Each-weaker, Each-map}

@@ -4,7 +4,7 @@ use Rattle.std.specs.List.{range_with_len}
 use Rattle.join_laws.specs.Locals.{at_key}
 use Rattle.list_laws.specs.Distinct.{distinct}
 use Rattle.key_parts.specs.Positions.{Position}
-use Rattle.join_laws.specs.declared.RowPlace.{RowPlace}
+use Rattle.col_core.specs.declared.row_place.RowPlace.{RowPlace}
 
 -- the present keys
 abbrev pub present : {K : Type 0} → List (Option K) → List K

@@ -2,7 +2,7 @@
 use Rattle.std.specs.Prelude.{ℕ, Bool, cond, List, [], ◌∷◌, map, filter, flat_map, length, get_or, Option, Some, None}
 use Rattle.std.specs.List.{range_with_len}
 use Rattle.join_laws.specs.Deals.{all_places, key_at, keys_join, partners}
-use Rattle.join_laws.specs.declared.RowPlace.{RowPlace}
+use Rattle.col_core.specs.declared.row_place.RowPlace.{RowPlace}
 use Rattle.join_laws.specs.declared.Pair.{Pair}
 
 -- what stands for a row with its partners, or for the row alone

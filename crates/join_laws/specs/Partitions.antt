@@ -9,7 +9,7 @@ use Rattle.chunked_idx_table.specs.Tables.{ProbeTable, empty_table}
 use Rattle.chunked_idx_table.specs.Inserts.{with_chunk}
 use Rattle.chunked_idx_table.specs.Probes.{matches, marked_more, joins_any, items, keys_at}
 use Rattle.list_laws.specs.Each.{Each}
-use Rattle.join_laws.specs.declared.RowPlace.{RowPlace}
+use Rattle.col_core.specs.declared.row_place.RowPlace.{RowPlace}
 use Rattle.join_laws.specs.Deals.{table_keys, table_positions, null_positions, key_at, all_places}
 use Rattle.join_laws.specs.Outer.{is_outer}
 use Rattle.join_laws.specs.declared.Pair.{Pair}
