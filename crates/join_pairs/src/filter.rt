@@ -15,7 +15,11 @@ pub fn filter_rows(alloc: Global, query: &Query, rows: &Frame) -> Result<Frame, 
     requires integers { filter_is_unsupported query.now ≡ false }
     requires one_type { has_mixed_filter query.now ≡ false }
     requires few { length rows.now.rows ≤ MAX_ROWS }
-    ensures { IfOk result (λ f. f ≡ record { schema = joined_schema query.now; rows = filter (passes query.now) rows.now.rows }) }
+    ensures { IfOk result
+        (λ f. f ≡ record {
+          schema = joined_schema query.now;
+          rows = filter (passes query.now) rows.now.rows;
+        }) }
 {
     Err(AllocError)
 }
