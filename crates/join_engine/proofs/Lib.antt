@@ -2,7 +2,6 @@ pub mod Placed
 pub mod Matched
 pub mod Gathered
 pub mod Grouped
-pub mod Columns
 pub mod GroupRows
 pub mod Parts
 pub mod JoinedRows

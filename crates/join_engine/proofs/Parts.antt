@@ -1,5 +1,5 @@
 -- What a query has for which there is no refusal before its rows are read.
-use Rattle.std.proofs.Common.{◌≡◌, ℕ, Bool, true, false, ◌||◌, not, List, [], ◌∷◌, get_or, Option, Some, None, is_some, refl, sym, arith}
+use Rattle.std.proofs.Common.{◌≡◌, ◌≤◌, ℕ, Bool, true, false, ◌||◌, not, List, [], ◌∷◌, get_or, Option, Some, None, is_some, refl, sym, arith}
 use Rattle.std.specs.Prelude.{IsSome}
 use Rattle.std.specs.Option.{option_map, option_map_or}
 use Rattle.std.proofs.lemmas.Bool.{false≢true}
@@ -21,7 +21,7 @@ use Rattle.join_model.specs.Refusals.{have_same_types, has_mixed_filter, is_empt
 use Rattle.join_model.specs.ColumnRefs.{schema_of}
 use Rattle.join_engine.specs.Places.{AllHave}
 use Rattle.join_engine.specs.Simple.{is_one_name, is_one_column, IsSimple}
-use Rattle.join_engine.proofs.Columns.{position_is_some}
+use Rattle.join_pairs.proofs.Named.{position_is_some}
 
 -- the key column is there
 pub key_is_some : (schema : List Field) (names : List (List ℕ)) (name : List ℕ) → is_one_name schema names ≡ true → name ≡ get_or names 0 name → IsSome (field_position name schema)

@@ -45,11 +45,8 @@ fn passing(alloc: Global, query: &Query, rows: Frame) -> Result<Frame, AllocErro
     requires integers { filter_is_unsupported query.now ≡ false }
     requires one_type { has_mixed_filter query.now ≡ false }
     requires few { length rows.rows ≤ MAX_ROWS }
-    ensures { IfOk result
-        (λ f. f ≡ record {
-          schema = joined_schema query.now;
-          rows = filter (passes query.now) rows.rows;
-        }) }
+    ensures schema { IfOk result (λ f. f.schema ≡ joined_schema query.now) }
+    ensures rows { IfOk result (λ f. f.rows ≡ filter (passes query.now) rows.rows) }
 {
     match &query.filter {
         Some(_) => filter_rows(alloc, query, &rows),

@@ -1,41 +1,22 @@
 //! The groups of joined rows, as a frame.
-ghost use Rattle.std.specs.Prelude.{◌≡◌, ◌<◌, ◌∷◌, [], true, is_some, length, map, IfOk};
+ghost use Rattle.std.specs.Prelude.{◌≡◌, ◌<◌, ◌∷◌, [], true, length, map, IfOk};
 ghost use Rattle.std.specs.List.{All};
 ghost use Rattle.col_core.specs.declared.data_type.DataType.TheVariants.{Int64};
 ghost use Rattle.col_core.specs.declared.leaf.Leaf.TheVariants.{Whole};
 ghost use Rattle.col_core.specs.Values.{Fits, value_at};
-ghost use Rattle.col_core.specs.Schemas.{type_named};
 ghost use Rattle.join_model.specs.Groups.{group_rows};
 ghost use Rattle.join_model.specs.Refusals.{is_one_sum};
 ghost use Rattle.join_model.specs.Answers.{joined_schema, group_schema, reduction_name};
-ghost use Rattle.join_model.specs.ColumnRefs.{schema_of, ref_value, ref_type, ref_name};
+ghost use Rattle.join_model.specs.ColumnRefs.{ref_value, ref_type, ref_name};
 ghost use Rattle.join_engine.specs.Simple.{is_one_column};
 ghost use Rattle.join_engine.specs.Totals.{totals_table};
 
 use crate::gather::frame_of_columns;
 use crate::totals::{Totals, entries, group_totals};
 use col_core::{ColumnBuilder, DataType, Frame, Leaf, LeafRef, List, Name, Series};
-use join_model::{ColumnRef, Query, Reduction, Side, kind_name, side_prefix};
+use join_model::{ColumnRef, Query, Reduction, kind_name, side_prefix};
+use join_pairs::joined_column;
 use std::alloc::{AllocError, Global};
-
-/// The column of joined rows that a reference names. Its side has such a column.
-fn joined_column<'a>(query: &Query, rows: &'a Frame, column: &ColumnRef) -> &'a Series
-    requires joined { rows.now.schema ≡ joined_schema query.now }
-    requires known { is_some (type_named column.now.name (schema_of query.now column.now.side))
-        ≡ true }
-    ensures values { result.now.values ≡ map (ref_value query.now column.now) rows.now.rows }
-    ensures dtype { result.now.dtype ≡ ref_type query.now column.now }
-{
-    let name = column.name.as_str();
-    let place = match column.side {
-        Side::Probe => query.probe_schema.position(name).unwrap(),
-        Side::Build => {
-            let _width = rows.schema().len();
-            query.probe_schema.len() + query.build_schema.position(name).unwrap()
-        }
-    };
-    rows.column(place)
-}
 
 // A column's name in the answer.
 fn ref_name(alloc: Global, column: &ColumnRef) -> Result<Name, AllocError>

@@ -94,7 +94,6 @@ pub fn matches(
 ) -> Result<Vec<Pair>, ProbeError>
     ensures ok { IfOk result (λ v. v.items ≡ matched build_rows.now probe_rows.now) }
     ensures few { IfOk result (λ _. length (matched build_rows.now probe_rows.now) ≤ max_pairs) }
-    ensures short { IfOk result (λ v. length v.items ≤ max_pairs) }
     ensures fails { IfErr result (ProbeFails max_pairs (matched build_rows.now probe_rows.now)) }
 {
     let mut out = Vec::new(alloc);

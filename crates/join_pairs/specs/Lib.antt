@@ -1,1 +1,2 @@
 pub use Rattle.join_model.specs.Filtered
+pub mod Kernels

@@ -5,9 +5,9 @@ use Rattle.col_core.specs.Tables.{header}
 use Rattle.join_query.specs.declared.query.Side.{Side}
 use Rattle.join_model.specs.Answers.{joined_schema}
 use Rattle.join_model.specs.ColumnRefs.{schema_of}
-use Rattle.join_engine.proofs.Columns.{position_is_some, probe_type, build_type}
-use Rattle.join_engine.proofs.grouping.joined_column.Goals as goal
-use Rattle.join_engine.proofs.grouping.joined_column.Goals.{in-Probe, in-Build}
+use Rattle.join_pairs.proofs.Named.{position_is_some, probe_type, build_type}
+use Rattle.join_pairs.proofs.columns.joined_column.Goals as goal
+use Rattle.join_pairs.proofs.columns.joined_column.Goals.{in-Probe, in-Build}
 
 pub unwrap-place-requires : goal.unwrap-place-requires
 unwrap-place-requires c =

@@ -7,6 +7,7 @@ use Rattle.std.specs.Str.{bytes_eq}
 use Rattle.std.proofs.lemmas.Bool.{false≢true, cases_Bool, lt-ltb}
 use Rattle.std.proofs.lemmas.List.{length-map, get_or-map, get_or-append_right, get_or_append_left}
 use Rattle.std.proofs.lemmas.List.Quantifiers.{position-Some}
+use Rattle.std.proofs.lemmas.Option.{get_or_from_slice_get}
 use Rattle.col_core.specs.declared.schema.Field.{Field}
 use Rattle.col_core.specs.declared.data_type.DataType.{DataType}
 use Rattle.col_core.specs.declared.data_type.DataType.TheVariants.{Binary}
@@ -18,7 +19,10 @@ use Rattle.join_query.specs.declared.query.ColumnRef.{ColumnRef}
 use Rattle.join_model.specs.Answers.{prefixed, joined_schema}
 use Rattle.join_model.specs.ColumnRefs.{schema_of, ref_type}
 use Rattle.join_query.specs.Names.{side_prefix}
-use Rattle.join_engine.proofs.Gathered.{field_found}
+
+-- the field that was found at a place
+field_found : (schema : List Field) (c : ℕ) (f : Field) → slice_get schema c ≡ Some f → field_at schema c ≡ f
+field_found schema c f h = get_or_from_slice_get schema c f no_field h
 
 -- the type of the first field of a name, found at its place
 type_at_first : (name : List ℕ) (fields : List Field) (i : ℕ) → i < length fields → bytes_eq (field_at fields i).name name ≡ true → ((k : ℕ) → k < i → bytes_eq (field_at fields k).name name ≡ false) → type_named name fields ≡ Some (field_at fields i).dtype
