@@ -8,5 +8,5 @@ mod table;
 mod words;
 
 pub use laws::{few_pairs_under_a_limit, probes_resume, unmarked_keys_resume};
-pub use row_encoded::RowEncodedChunkedIdxTable;
+pub use row_encoded::{RowEncodedChunkedIdxTable, new_chunked_idx_table};
 pub use table::ChunkedIdxTable;

@@ -21,6 +21,7 @@ use crate::words::{
     Words, is_marked, mark, push_matches, push_positions, push_unmatched, push_word,
 };
 use byte_map::{BytesIndexMap, Found};
+use col_core::Schema;
 use hash_keys::HashKeys;
 use key_parts::{ChunkId, IdxSize, PlRandomState};
 use std::alloc::{AllocError, Global};
@@ -302,6 +303,18 @@ impl RowEncodedChunkedIdxTable {
         }
         Ok(count)
     }
+}
+
+/// A table without a row, for keys of these fields. Whatever the fields are, their keys are the bytes
+/// of rows, so that the schema is not read.
+pub fn new_chunked_idx_table(
+    alloc: Global,
+    _key_schema: &Schema,
+    random_state: PlRandomState,
+) -> Result<RowEncodedChunkedIdxTable, AllocError>
+    ensures { IfOk result (λ t. t ≡ empty_table random_state) }
+{
+    RowEncodedChunkedIdxTable::new(alloc, random_state)
 }
 
 /// How many rows are asked for.

@@ -1,5 +1,5 @@
 -- Hashes that stand beside keys.
-use Rattle.std.proofs.Common.{◌≡◌, ℕ, zero, suc, ◌<◌, Bool, true, false, List, [], ◌∷◌, map, length, get_or, IfSome, Some, None, refl, sym, ◌∙◌, ap, subst, arith}
+use Rattle.std.proofs.Common.{◌≡◌, ℕ, zero, suc, ◌+◌, ◌<◌, Bool, true, false, List, [], ◌∷◌, ◌++◌, map, length, take, get_or, slice_get, IfSome, Some, None, refl, sym, ◌∙◌, ap, subst, arith}
 use Rattle.std.proofs.lemmas.List.{length-map}
 use Rattle.key_parts.specs.declared.hash.PlRandomState.{PlRandomState}
 use Rattle.key_parts.specs.Hashes.{hash_of}
@@ -27,3 +27,19 @@ hash_found keys state hashes items i hash view kept below is =
     let within : i < length items = omega (arith, long, length-map items (item_of {T = List ℕ})) in
     let here : get_or (map (hash_of state) (stored items)) i hash ≡ hash = ap (λ (l : List ℕ). get_or l i hash) (sym kept.hashed) ∙ sym is in
     subst P view (subst Q here (hashed_at state items i hash within))
+
+some_same : {X : Type 0} {x y : X} → Some x ≡ Some y → x ≡ y
+some_same e = cc
+
+hash_after : (state : PlRandomState) (xs : List (List ℕ)) (i : ℕ) (x : List ℕ) → slice_get xs i ≡ Some x
+    → map (hash_of state) (take i xs) ++ hash_of state x ∷ [] ≡ map (hash_of state) (take (suc i) xs)
+hash_after state [] i x at = absurd (let no : None ≡ Some x = at in cc)
+hash_after state (y ∷ xs) zero x at = ap (λ (z : List ℕ). hash_of state z ∷ []) (sym (some_same at))
+hash_after state (y ∷ xs) (suc i) x at = ap (λ rest. hash_of state y ∷ rest) (hash_after state xs i x at)
+
+-- one hash more
+pub hash_more : (state : PlRandomState) (xs : List (List ℕ)) (i : ℕ) (x : List ℕ) → slice_get xs i ≡ Some x
+    → map (hash_of state) (take i xs) ++ hash_of state x ∷ [] ≡ map (hash_of state) (take (i + 1) xs)
+hash_more state xs i x at =
+    let next : i + 1 ≡ suc i = omega arith in
+    rw next (hash_after state xs i x at)

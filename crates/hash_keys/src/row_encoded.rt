@@ -1,7 +1,8 @@
 //! Keys as the bytes of their rows.
-ghost use Rattle.std.specs.Prelude.{◌≡◌, ◌<◌, ◌^◌, ◌==◌, length, IfOk, IfSome, option_copied};
+ghost use Rattle.std.specs.Prelude.{◌≡◌, ◌<◌, ◌^◌, ◌==◌, map, length, IfOk, IfSome, option_copied};
 ghost use Rattle.std.specs.List.{All};
 ghost use Rattle.key_parts.specs.Hashes.{hash_of};
+ghost use Rattle.col_arrays.specs.Items.{item_of};
 ghost use Rattle.hash_keys.specs.Gathered.{keys_at};
 ghost use Rattle.hash_keys.specs.Keys.{key_at};
 
@@ -33,6 +34,27 @@ impl Model for RowEncodedKeys {
 }
 
 impl RowEncodedKeys {
+    /// The items of an array as keys that are hashed under a state. A null's hash is that of the
+    /// bytes that are stored for it.
+    pub fn from_array(
+        alloc: Global,
+        random_state: PlRandomState,
+        keys: BinaryArray,
+    ) -> Result<Self, AllocError>
+        requires { length keys < 2 ^ 32 }
+        ensures { IfOk result (λ k. k ≡ record { state = random_state; keys = map item_of keys }) }
+    {
+        let mut hashes = Vec::with_capacity(alloc, keys.len())?;
+        for i in 0..keys.len() {
+            hashes.push(random_state.hash_one(keys.value(i)))?;
+        }
+        Ok(RowEncodedKeys {
+            state: random_state,
+            hashes,
+            keys,
+        })
+    }
+
     /// The number of keys, nulls among them.
     pub fn len(&self) -> usize
         ensures count { result ≡ length self.now.keys }
