@@ -8,6 +8,7 @@ use Rattle.col_core.specs.declared.leaf.Leaf.{Leaf}
 use Rattle.col_core.specs.declared.leaf.Leaf.TheVariants as leaves
 use Rattle.col_core.specs.declared.schema.Field.{Field}
 use Rattle.col_core.specs.Physical.{physical_of}
+use Rattle.col_core.specs.Values.{Fits}
 use Rattle.col_core.specs.Tables.{Row, FitsSchema}
 
 -- the width of the whole numbers of a kind; of a kind without them any
@@ -52,6 +53,11 @@ IsShort _ = Unit {0}
 abbrev pub AreShort : Row → Type 0
 AreShort [] = Unit {0}
 AreShort (v ∷ vs) = IsShort v × AreShort vs
+
+-- a value of a type; where it is a text or bytes, of a length that eight bytes hold
+pub record IsValueOf (dtype : DataType) (value : Leaf) : Type 0 where
+  pub fits : Fits dtype value
+  pub short : IsShort value
 
 -- a row of a schema, whose texts and bytes have lengths that eight bytes hold
 pub record IsRowOf (schema : List Field) (row : Row) : Type 0 where
