@@ -49,9 +49,9 @@ rows_shown shown ls cs n e h =
     row_is cs i (subst (All (λ (c : Column). IsValueOf c.dtype (value_at c.values i))) e (All-map (λ (c : Column). IsValueOf c.dtype (value_at c.values i)) shown ls (h i (range_within 0 n n (omega arith) k d l)))))
 
 -- what holds of the columns that are shown
-pub All-shown : {L : Type 0} (shown : L → Column) (P : Column → Type 0) (ls : List L) (cs : List Column) → map shown ls ≡ cs → All P cs → All (λ l. P (shown l)) ls
-All-shown shown P ls cs e h = λ k d l.
-    let at : get_or cs k (shown d) ≡ shown (get_or ls k d) = ap (λ (xs : List Column). get_or xs k (shown d)) (sym e) ∙ get_or-map shown ls k d (shown d) l in
+pub All-shown : {L C : Type 0} (shown : L → C) (P : C → Type 0) (ls : List L) (cs : List C) → map shown ls ≡ cs → All P cs → All (λ l. P (shown l)) ls
+All-shown {L} {C} shown P ls cs e h = λ k d l.
+    let at : get_or cs k (shown d) ≡ shown (get_or ls k d) = ap (λ (xs : List C). get_or xs k (shown d)) (sym e) ∙ get_or-map shown ls k d (shown d) l in
     let below : k < length cs = omega (arith, ap length e, length-map ls shown) in
     subst P at (h k (shown d) below)
 

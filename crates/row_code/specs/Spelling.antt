@@ -69,6 +69,33 @@ pub record Spells (schema : List Field) (row : Row) (bytes : List ℕ) : Type 0 
   pub of : IsRowOf schema row
   pub same : bytes ≡ row_spelling schema row
 
+-- these bytes are those of a value of a type, and then a rest
+pub record ValueInFront (dtype : DataType) (value : Leaf) (rest bytes : List ℕ) : Type 0 where
+  pub of : IsValueOf dtype value
+  pub same : bytes ≡ spelling dtype value ++ rest
+
+-- the first n of these bytes spell a row of a schema
+pub record RowInFront (schema : List Field) (n : ℕ) (bytes : List ℕ) : Type 0 where
+  pub row : Row
+  pub front : List ℕ
+  pub rest : List ℕ
+  pub spells : Spells schema row front
+  pub cut : bytes ≡ front ++ rest
+  pub long : length front ≡ n
+
+-- these bytes spell a row of a schema
+abbrev pub IsSpelling : List Field → List ℕ → Type 0
+IsSpelling schema bytes = (row : Row) × Spells schema row bytes
+
+-- bytes that begin with those of a value of a type
+abbrev pub HasValueInFront : DataType → List ℕ → Type 0
+HasValueInFront dtype bytes = (value : Leaf) × (rest : List ℕ) × ValueInFront dtype value rest bytes
+
+-- rows of a schema, as their bytes
+pub record Spelled : Type 0 where
+  pub schema : List Field
+  pub rows : List (List ℕ)
+
 -- bytes that begin with the spelling of a row of a schema begin with that of no other
 abbrev pub AreApart : List Field → Type 0
 AreApart schema = (xs ys : Row) (a b r s : List ℕ)
