@@ -1,8 +1,8 @@
 -- Rows dealt to lists, and hashes to sketches.
-use Rattle.std.proofs.Common.{◌≡◌, ℕ, zero, suc, ◌+◌, ◌<◌, ◌≤◌, ◌==◌, Bool, true, false, cond, List, [], ◌∷◌, ◌++◌, map, filter, length, get_or, set, Some, None, Option, inl, inr, refl, sym, ap, ap₂, subst, ◌∙◌, append_assoc, arith, zero-add, Result, Ok, Err, OnErr, IfSome}
-use Rattle.std.specs.List.{range_with_len, flat_map, fold}
+use Rattle.std.proofs.Common.{◌≡◌, ℕ, ◌+◌, ◌<◌, ◌==◌, Bool, true, false, cond, List, [], ◌∷◌, ◌++◌, map, filter, length, get_or, set, Some, None, inl, inr, refl, sym, ap, ap₂, subst, ◌∙◌, arith, zero-add, Result, Ok, Err, OnErr, IfSome}
+use Rattle.std.specs.List.{range_with_len, flat_map}
 use Rattle.std.proofs.lemmas.Bool.{cases_eq, ne_eqb}
-use Rattle.hash_keys.proofs.Ranges.{range-more, range-next, eqb-same}
+use Rattle.hash_keys.proofs.Ranges.{range-more, eqb-same}
 use Rattle.std.proofs.lemmas.List.{map-set, get_or-set_same, get_or-set_other, get_or-map, append-nil, ext_get_or, length-map}
 use Rattle.std.proofs.Math.Seq.{map-set_same}
 use Rattle.std.proofs.lemmas.List.Elements.{filter-append}

@@ -1,7 +1,7 @@
 -- Keys at places, and positions by partition.
-use Rattle.std.proofs.Common.{◌≡◌, ℕ, zero, suc, ◌+◌, ◌^◌, ◌<◌, ◌≤◌, ◌==◌, Bool, true, false, cond, List, [], ◌∷◌, ◌++◌, map, length, get_or, set, take, Some, None, Option, inl, inr, refl, sym, ap, ap₂, subst, ◌∙◌, append_assoc, arith, zero-add, add-zero}
-use Rattle.std.specs.Prelude.{slice_get, sum_by}
-use Rattle.std.specs.List.{range_with_len, All}
+use Rattle.std.proofs.Common.{◌≡◌, ℕ, zero, suc, ◌+◌, ◌^◌, ◌<◌, ◌==◌, Bool, true, false, cond, List, [], ◌∷◌, ◌++◌, map, length, get_or, set, take, Some, Option, inl, inr, refl, sym, ap, ap₂, subst, ◌∙◌, append_assoc, arith, zero-add, add-zero}
+use Rattle.std.specs.Prelude.{slice_get}
+use Rattle.std.specs.List.{range_with_len}
 use Rattle.std.proofs.lemmas.Bool.{cases_eq, ne_eqb}
 use Rattle.hash_keys.proofs.Ranges.{range-more, range-next, eqb-same}
 use Rattle.std.proofs.lemmas.List.{get_or-set_same, get_or-set_other, append-nil, get_or_default, take-append-le, map-append, length-map, length-take}

@@ -4,7 +4,7 @@ use Rattle.std.proofs.lemmas.List.{length-map}
 use Rattle.key_parts.specs.declared.hash.PlRandomState.{PlRandomState}
 use Rattle.key_parts.specs.Hashes.{hash_of}
 use Rattle.col_arrays.specs.Items.{stored, item_of}
-use Rattle.hash_keys.specs.Keys.{Keys, Key, key_at}
+use Rattle.hash_keys.specs.Keys.{Keys, key_at}
 use Rattle.hash_keys.specs.Hashed.{AreHashed}
 
 -- the hash beside a key that is present is that of the key

@@ -1,5 +1,5 @@
 -- Numbers in a row, and a number equal to itself.
-use Rattle.std.proofs.Common.{◌≡◌, ℕ, zero, suc, ◌+◌, ◌==◌, eqb, Bool, true, false, T, List, [], ◌∷◌, ◌++◌, refl, ap, ◌∙◌, add-one, zero-add, arith}
+use Rattle.std.proofs.Common.{◌≡◌, ℕ, zero, suc, ◌+◌, ◌==◌, Bool, true, false, T, List, [], ◌∷◌, ◌++◌, refl, ap, ◌∙◌, add-one, zero-add, arith}
 use Rattle.std.specs.List.{range_with_len}
 use Rattle.std.proofs.Math.Dec.{eqb_refl}
 

@@ -1,5 +1,5 @@
 -- Which rows go to which partition, and what sketches take of them.
-use Rattle.std.specs.Prelude.{◌≡◌, ℕ, Bool, true, false, ◌&&◌, ◌||◌, ◌==◌, cond, List, [], ◌∷◌, map, filter, length, Option, Some, None, is_some, slice_index_or}
+use Rattle.std.specs.Prelude.{ℕ, Bool, ◌&&◌, ◌||◌, ◌==◌, cond, List, [], ◌∷◌, map, filter, length, Some, None, is_some, slice_index_or}
 use Rattle.std.specs.List.{range_with_len, flat_map}
 use Rattle.key_parts.specs.Sketches.{with_hashes}
 use Rattle.hash_keys.specs.Keys.{Key, key_at}

@@ -1,5 +1,5 @@
 -- Keys at places, and the positions of rows that stand by partition.
-use Rattle.std.specs.Prelude.{ℕ, ◌+◌, ◌==◌, Bool, cond, List, [], ◌∷◌, ◌++◌, map, sum_by}
+use Rattle.std.specs.Prelude.{ℕ, ◌+◌, ◌==◌, cond, List, [], ◌∷◌, ◌++◌, map, sum_by}
 use Rattle.std.specs.List.{range_with_len}
 use Rattle.key_parts.specs.Positions.{Position}
 use Rattle.hash_keys.specs.Keys.{Key, key_at}

@@ -3,3 +3,4 @@ pub mod Hashed
 pub mod Views
 pub mod Dealt
 pub mod Gathered
+pub mod Rows

@@ -1,7 +1,7 @@
 -- What contracts see of keys, whichever way they are kept.
 use Rattle.std.specs.Prelude.{List}
 use Rattle.key_parts.specs.declared.hash.PlRandomState.{PlRandomState}
-use Rattle.hash_keys.specs.Keys.{Keys, Key}
+use Rattle.hash_keys.specs.Keys.{Key}
 use Rattle.hash_keys.specs.declared.keys.HashKeys.{HashKeys}
 use Rattle.hash_keys.specs.declared.keys.HashKeys.TheVariants.{RowEncoded}
 

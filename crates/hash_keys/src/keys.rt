@@ -1,15 +1,19 @@
 //! Keys of rows, whichever way they are kept.
 ghost use Rattle.std.specs.Prelude.{◌≡◌, ◌<◌, ◌^◌, ◌==◌, ◌++◌, ◌⊎◌, ℕ, Some, map, length, slice_index, IfOk, IfSome, OnOk, OnErr, option_copied};
 ghost use Rattle.std.specs.List.{All, range_with_len};
+ghost use Rattle.col_core.specs.Tables.{selected};
 ghost use Rattle.key_parts.specs.Hashes.{hash_of};
 ghost use Rattle.key_parts.specs.Partitions.{partition_of};
 ghost use Rattle.key_parts.specs.Positions.{position};
 ghost use Rattle.hash_keys.specs.Dealt.{deals, deals_front, sketched, sketched_front};
 ghost use Rattle.hash_keys.specs.Gathered.{count_in, keys_at, numbered};
 ghost use Rattle.hash_keys.specs.Keys.{key_at};
+ghost use Rattle.hash_keys.specs.Rows.{row_keys};
+ghost use Rattle.row_code.specs.Spelling.{IsRowOf};
 
 use crate::row_encoded::RowEncodedKeys;
 use col_arrays::IdxSize;
+use col_core::Frame;
 use key_parts::{CardinalitySketch, ChunkId, HashPartitioner, PlRandomState};
 use std::alloc::{AllocError, Global};
 
@@ -22,6 +26,43 @@ pub enum HashKeys {
 
 impl HashKeys {
     ghost use Rattle.hash_keys.specs.Views.{keys_of, state_of};
+
+    /// The keys of the rows of a frame. A key is null exactly where nulls are not valid and a value
+    /// of the row is null. The keys are encoded as rows, forced or not.
+    pub fn from_df(
+        alloc: Global,
+        df: &Frame,
+        random_state: PlRandomState,
+        null_is_valid: bool,
+        _force_row_encoding: bool,
+    ) -> Result<HashKeys, AllocError>
+        requires few { length df.now.rows < 2 ^ 32 }
+        ensures keys { IfOk result (λ k. keys_of k ≡ row_keys null_is_valid df.now) }
+        ensures state { IfOk result (λ k. state_of k ≡ random_state) }
+        ensures rows { IfOk result (λ _. All (IsRowOf df.now.schema) df.now.rows) }
+    {
+        let keys = RowEncodedKeys::from_df(alloc, df, random_state, null_is_valid)?;
+        Ok(HashKeys::RowEncoded(keys))
+    }
+
+    /// The keys of the rows of some columns of a frame, by their places, as `from_df` has them of
+    /// all.
+    pub fn from_columns(
+        alloc: Global,
+        df: &Frame,
+        places: &[usize],
+        random_state: PlRandomState,
+        null_is_valid: bool,
+    ) -> Result<HashKeys, AllocError>
+        requires in_bounds { All (λ i. i < length df.now.schema) places.now }
+        requires few { length df.now.rows < 2 ^ 32 }
+        ensures keys { IfOk result (λ k. keys_of k ≡ row_keys null_is_valid (selected places.now df.now)) }
+        ensures state { IfOk result (λ k. state_of k ≡ random_state) }
+        ensures rows { IfOk result (λ _. All (IsRowOf (selected places.now df.now).schema) (selected places.now df.now).rows) }
+    {
+        let keys = RowEncodedKeys::from_columns(alloc, df, places, random_state, null_is_valid)?;
+        Ok(HashKeys::RowEncoded(keys))
+    }
 
     /// The number of keys, nulls among them.
     pub fn len(&self) -> usize

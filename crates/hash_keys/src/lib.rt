@@ -5,6 +5,7 @@ mod deal;
 mod gather;
 mod keys;
 mod row_encoded;
+mod rows;
 
 pub use keys::HashKeys;
 pub use row_encoded::RowEncodedKeys;

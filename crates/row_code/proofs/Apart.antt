@@ -3,6 +3,7 @@ use Rattle.std.proofs.Common.{◌≡◌, ℕ, ◌+◌, ◌<◌, ◌≤◌, ◌^�
 use Rattle.std.specs.Prelude.{◌⊎◌, ℤ, pos, negsuc, ◌≤ℤ◌, ◌<ℤ◌, FitsSigned}
 use Rattle.std.proofs.Common.{inl, inr}
 use Rattle.std.proofs.lemmas.Int.{to_z-of_z, ints}
+use Rattle.std.proofs.lemmas.List.{append-nil}
 use mir.ValLaws.{of_z_fits}
 use mir.Val.{bits}
 use Rattle.std.specs.Int.{Width, w8, w16, w32, w64, w128, to_le_bytes, cast_unsigned, cast_signed, FitsUnsignedBits}
@@ -153,3 +154,11 @@ pub spellings_apart : (schema : List Field) → AreApart schema
 spellings_apart schema xs ys a b r s p q e =
     rows_apart schema xs ys r s p.of.fits p.of.short q.of.fits q.of.short
     (ap (λ (a : List ℕ). a ++ r) (sym p.same) ∙ e ∙ ap (λ (b : List ℕ). b ++ s) q.same)
+
+-- the same bytes are those of the same row
+pub same_rows : (schema : List Field) (x y : Row) → IsRowOf schema x → IsRowOf schema y → row_spelling schema x ≡ row_spelling schema y → x ≡ y
+same_rows schema x y p q e = (rows_apart schema x y [] [] p.fits p.short q.fits q.short (ap (λ (b : List ℕ). b ++ []) e)).0
+
+-- the bytes of no row begin those of another
+pub no_front : (schema : List Field) (x y : Row) (rest : List ℕ) → IsRowOf schema x → IsRowOf schema y → row_spelling schema x ++ rest ≡ row_spelling schema y → rest ≡ []
+no_front schema x y rest p q e = (rows_apart schema x y rest [] p.fits p.short q.fits q.short (e ∙ sym (append-nil (row_spelling schema y)))).1

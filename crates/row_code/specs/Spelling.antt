@@ -8,6 +8,7 @@ use Rattle.col_core.specs.declared.leaf.Leaf.{Leaf}
 use Rattle.col_core.specs.declared.leaf.Leaf.TheVariants as leaves
 use Rattle.col_core.specs.declared.schema.Field.{Field}
 use Rattle.col_core.specs.Physical.{physical_of}
+use Rattle.col_core.specs.Values.{Fits}
 use Rattle.col_core.specs.Tables.{Row, FitsSchema}
 
 -- the width of the whole numbers of a kind; of a kind without them any
@@ -53,6 +54,11 @@ abbrev pub AreShort : Row → Type 0
 AreShort [] = Unit {0}
 AreShort (v ∷ vs) = IsShort v × AreShort vs
 
+-- a value of a type; where it is a text or bytes, of a length that eight bytes hold
+pub record IsValueOf (dtype : DataType) (value : Leaf) : Type 0 where
+  pub fits : Fits dtype value
+  pub short : IsShort value
+
 -- a row of a schema, whose texts and bytes have lengths that eight bytes hold
 pub record IsRowOf (schema : List Field) (row : Row) : Type 0 where
   pub fits : FitsSchema schema row
@@ -62,6 +68,33 @@ pub record IsRowOf (schema : List Field) (row : Row) : Type 0 where
 pub record Spells (schema : List Field) (row : Row) (bytes : List ℕ) : Type 0 where
   pub of : IsRowOf schema row
   pub same : bytes ≡ row_spelling schema row
+
+-- these bytes are those of a value of a type, and then a rest
+pub record ValueInFront (dtype : DataType) (value : Leaf) (rest bytes : List ℕ) : Type 0 where
+  pub of : IsValueOf dtype value
+  pub same : bytes ≡ spelling dtype value ++ rest
+
+-- the first n of these bytes spell a row of a schema
+pub record RowInFront (schema : List Field) (n : ℕ) (bytes : List ℕ) : Type 0 where
+  pub row : Row
+  pub front : List ℕ
+  pub rest : List ℕ
+  pub spells : Spells schema row front
+  pub cut : bytes ≡ front ++ rest
+  pub long : length front ≡ n
+
+-- these bytes spell a row of a schema
+abbrev pub IsSpelling : List Field → List ℕ → Type 0
+IsSpelling schema bytes = (row : Row) × Spells schema row bytes
+
+-- bytes that begin with those of a value of a type
+abbrev pub HasValueInFront : DataType → List ℕ → Type 0
+HasValueInFront dtype bytes = (value : Leaf) × (rest : List ℕ) × ValueInFront dtype value rest bytes
+
+-- rows of a schema, as their bytes
+pub record Spelled : Type 0 where
+  pub schema : List Field
+  pub rows : List (List ℕ)
 
 -- bytes that begin with the spelling of a row of a schema begin with that of no other
 abbrev pub AreApart : List Field → Type 0

@@ -1,6 +1,5 @@
-use Rattle.std.proofs.Common.{◌≡◌, [], ◌∷◌, ◌++◌, map, take, length, Some, ap, ◌∙◌}
+use Rattle.std.proofs.Common.{[], ◌∷◌, map, take, length, ap, ◌∙◌}
 use Rattle.std.proofs.lemmas.List.{map-append}
-use Rattle.key_parts.specs.declared.chunk_id.ChunkId.{ChunkId}
 use Rattle.key_parts.specs.Positions.{position}
 use Rattle.hash_keys.proofs.Gathered.{position_more, kept_more}
 use Rattle.hash_keys.proofs.gather.push_positions.Goals as goal

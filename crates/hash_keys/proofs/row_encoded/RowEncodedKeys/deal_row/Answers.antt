@@ -1,4 +1,4 @@
-use Rattle.std.proofs.Common.{◌≡◌, ℕ, Bool, cond, ◌++◌, List, [], ◌∷◌, Vec, Global, map, get_or, sym, ap, ◌∙◌}
+use Rattle.std.proofs.Common.{ℕ, Bool, cond, ◌++◌, List, [], ◌∷◌, Vec, Global, map, get_or, sym, ap, ◌∙◌}
 use Rattle.key_parts.specs.Hashes.{hash_of}
 use Rattle.key_parts.specs.Partitions.{partition_of}
 use Rattle.key_parts.specs.Sketches.{with_hashes}

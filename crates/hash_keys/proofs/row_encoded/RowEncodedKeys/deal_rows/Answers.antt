@@ -1,9 +1,7 @@
-use Rattle.std.proofs.Common.{◌≡◌, ℕ, ◌<◌, Bool, cond, ◌++◌, List, [], ◌∷◌, Vec, Global, map, length, get_or, sym, ap, subst, ◌∙◌, arith}
-use Rattle.std.specs.List.{range_with_len, flat_map}
+use Rattle.std.proofs.Common.{◌≡◌, ℕ, ◌<◌, cond, List, [], Vec, Global, map, length, get_or, subst, ◌∙◌, arith}
 use Rattle.std.proofs.lemmas.List.{length-map}
 use Rattle.key_parts.specs.Hashes.{hash_of}
 use Rattle.key_parts.specs.Partitions.{partition_of}
-use Rattle.key_parts.specs.Sketches.{with_hashes}
 use Rattle.hash_keys.specs.Keys.{Key, key_at}
 use Rattle.hash_keys.specs.Dealt.{deals_front, hash_in, sketched_front}
 use Rattle.hash_keys.proofs.Dealt.{dealt_more, sketched_more, all_dealt, all_sketched, dealt_some}

@@ -1,4 +1,4 @@
-use Rattle.std.proofs.Common.{◌≡◌, ℕ, ◌≤◌, length, take, map, get_or, ap, ◌∙◌, arith}
+use Rattle.std.proofs.Common.{ℕ, map, get_or, ap, ◌∙◌, arith}
 use Rattle.std.proofs.lemmas.List.{take_all}
 use Rattle.hash_keys.proofs.Gathered.{gathered_hashed, gathered_keys}
 use Rattle.hash_keys.proofs.row_encoded.RowEncodedKeys.gather.Goals as goal
