@@ -6,5 +6,6 @@ mod gather;
 mod keys;
 mod row_encoded;
 
+pub use deal::{clear_lists, insert_hash, push_row};
 pub use keys::HashKeys;
 pub use row_encoded::RowEncodedKeys;
