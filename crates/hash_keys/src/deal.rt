@@ -122,7 +122,7 @@ impl RowEncodedKeys {
 }
 
 /// Empties each list.
-fn clear_lists(lists: &mut [Vec<IdxSize>])
+pub fn clear_lists(lists: &mut [Vec<IdxSize>])
     ensures { (p : ℕ) → slice_index_or (map (λ v. v.items) lists.new) p [] ≡ [] }
 {
     for list in lists.iter_mut() {
@@ -131,7 +131,11 @@ fn clear_lists(lists: &mut [Vec<IdxSize>])
 }
 
 /// Appends a row to the list of a partition. After `Err` nothing has changed.
-fn push_row(lists: &mut [Vec<IdxSize>], partition: usize, row: IdxSize) -> Result<(), AllocError>
+pub fn push_row(
+    lists: &mut [Vec<IdxSize>],
+    partition: usize,
+    row: IdxSize,
+) -> Result<(), AllocError>
     requires { partition < length lists.old }
     ensures ok { OnOk result ((p : ℕ) → slice_index_or (map (λ v. v.items) lists.new) p [] ≡ slice_index_or (map (λ v. v.items) lists.old) p [] ++ cond (partition == p) (row ∷ []) []) }
     ensures err { OnErr result (map (λ v. v.items) lists.new ≡ map (λ v. v.items) lists.old) }
@@ -141,7 +145,7 @@ fn push_row(lists: &mut [Vec<IdxSize>], partition: usize, row: IdxSize) -> Resul
 }
 
 /// Takes a hash into the sketch of a partition.
-fn insert_hash(sketches: &mut [CardinalitySketch], partition: usize, hash: u64)
+pub fn insert_hash(sketches: &mut [CardinalitySketch], partition: usize, hash: u64)
     requires { partition < length sketches.old }
     ensures { (p : ℕ) → slice_index_or sketches.new p [] ≡ with_hashes (slice_index_or sketches.old p []) (cond (partition == p) (hash ∷ []) []) }
 {

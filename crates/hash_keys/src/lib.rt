@@ -7,5 +7,6 @@ mod keys;
 mod row_encoded;
 mod rows;
 
+pub use deal::{clear_lists, insert_hash, push_row};
 pub use keys::HashKeys;
 pub use row_encoded::RowEncodedKeys;

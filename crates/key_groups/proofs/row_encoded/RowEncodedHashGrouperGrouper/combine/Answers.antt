@@ -1,0 +1,28 @@
+use Rattle.std.proofs.Common.{◌≡◌, ◌<◌, ◌+◌, ◌^◌, ◌∙◌, [], List, ap, length, bytes_eq, arith}
+use Rattle.std.proofs.lemmas.Slice.Eq.{bytes_eq-Decides}
+use Rattle.key_groups.specs.Groups.{KeyGroups}
+use Rattle.key_groups.proofs.Index.{few_next, took_next, took_front, on_err}
+use Rattle.key_groups.proofs.row_encoded.RowEncodedHashGrouperGrouper.combine.Goals as goal
+
+pub take_key-requires-clause-few : goal.take_key-requires-clause-few
+take_key-requires-clause-few g c =
+    let below : c.loop-i.i < length c.args.other.now.keys = omega arith in
+    few_next bytes_eq bytes_eq-Decides c.args.self.now.keys c.args.other.now.keys c.loop-i.self.keys c.loop-i.group_idxs.items c.hashed_key-hash.result.1.now [] c.loop-i.i (2 ^ 32) below c.hashed_key-hash.ensures.key c.loop-i.invariant.took c.requires.few
+
+pub loop-i-preserved : goal.loop-i-preserved
+loop-i-preserved g c =
+    let below : c.loop-i.i < length c.args.other.now.keys = omega arith in
+    let new = c.in_ok-take_key.ensures.ok in
+    record {
+      took = took_next bytes_eq bytes_eq-Decides c.args.self.now.keys c.args.other.now.keys c.loop-i.self.keys c.take_key.new.self.keys c.loop-i.group_idxs.items c.take_key.new.group_idxs.items c.hashed_key-hash.result.1.now [] c.loop-i.i below c.hashed_key-hash.ensures.key c.loop-i.invariant.took
+          (ap (λ (t : KeyGroups). t.keys) new) c.in_ok-take_key.ensures.index;
+      schema = ap (λ (t : KeyGroups). t.schema) new ∙ c.loop-i.invariant.schema;
+      state = ap (λ (t : KeyGroups). t.state) new ∙ c.loop-i.invariant.state;
+      cost = omega (arith, c.in_ok-take_key.ensures.cost, c.loop-i.invariant.cost);
+    }
+
+pub returns-in_err-take_key-clause-err : goal.returns-in_err-take_key-clause-err
+returns-in_err-take_key-clause-err g c =
+    let below : c.loop-i.i < length c.args.other.now.keys = omega arith in
+    on_err c.from_residual.result (took_front bytes_eq c.args.other.now.keys c.args.self.now.keys c.loop-i.self.keys c.take_key.new.self.keys c.loop-i.group_idxs.items c.take_key.new.group_idxs.items c.loop-i.i c.args.steps.now c.loop-i.steps c.take_key.new.steps below c.loop-i.invariant.took
+    (ap (λ (t : KeyGroups). t.keys) c.in_err-take_key.ensures.err) c.in_err-take_key.ensures.err_indexes c.loop-i.invariant.cost c.in_err-take_key.ensures.err_cost)

@@ -1,0 +1,4 @@
+pub mod Groups
+pub mod Taken
+pub mod Kept
+pub mod Dealt
