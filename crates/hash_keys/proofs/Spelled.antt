@@ -85,24 +85,10 @@ pub selected_all : (t : Table) → AreWide t → selected (range_with_len 0 (len
 selected_all t wide =
     ap₂ (λ (s : List Field) (rows : List Row). record { schema = s; rows = rows }) (read_all t.schema no_field) (all_values t.rows (length t.schema) wide)
 
--- hashes beside keys
-pub hashed : (state : PlRandomState) (hashes : List ℕ) (items : List (List ℕ × Bool)) (keys : List Key) → hashes ≡ map (hash_of state) (stored items) → map item_of items ≡ keys → length keys < 2 ^ 32 → AreHashed state hashes items
-hashed state hashes items keys are same few =
-    let long : length items ≡ length keys = sym (length-map items (item_of {T = List ℕ})) ∙ ap length same in
-    record { hashed = are; few = rw long few }
-
 pub length-row_keys : (valid : Bool) (t : Table) → length (row_keys valid t) ≡ length t.rows
 length-row_keys valid t = length-map t.rows (key_of valid t.schema)
 
 -- ---- loops
-
--- the hash of one more key
-pub hashed_more : (state : PlRandomState) (items : List (List ℕ × Bool)) (i hash : ℕ) (key : List ℕ) (done new : List ℕ) → i < length items → slice_get (stored items) i ≡ Some key → hash ≡ hash_of state key
-    → done ≡ map (hash_of state) (take i (stored items)) → new ≡ done ++ hash ∷ [] → new ≡ map (hash_of state) (take (i + 1) (stored items))
-hashed_more state items i hash key done new below found is before pushed =
-    let within : i < length (stored items) = rw (length-map items (λ (item : List ℕ × Bool). item.0)) below in
-    let at : get_or (stored items) i [] ≡ key = let e = sym (slice_get-get_or (stored items) i [] within) ∙ found in cc in
-    mapped_more (hash_of state) (stored items) i [] done new hash within before pushed (ap (hash_of state) at ∙ sym is)
 
 -- whether one more row has a null
 pub present_more : (rows : List Row) (places : List ℕ) (i : ℕ) (has : Bool) (done new : List Bool) → i < length rows → has ≡ list_any is_null (values_at (get_or rows i []) places)
@@ -166,3 +152,10 @@ columns_none rows places i d values below are h before =
     let here : p (get_or places i d) ≡ false = ap (list_any is_null) (sym are) ∙ nulls_none values h in
     ap (list_any p) (take_more places i d below) ∙ list_any-append p (take i places) (get_or places i d ∷ [])
     ∙ ap₂ (λ (a b : Bool). a || (b || false)) before here
+
+-- as many keys as rows
+pub count_of_keys : (valid : Bool) (places : List ℕ) (t : Table) (keys : List (List ℕ × Bool)) → map item_of keys ≡ row_keys valid (selected places t) → length keys ≡ length t.rows
+count_of_keys valid places t keys h =
+    sym (length-map keys (item_of {T = List ℕ})) ∙ ap length h
+    ∙ length-row_keys valid (selected places t)
+    ∙ length-map t.rows (λ row. values_at row places)

@@ -4,7 +4,6 @@ ghost use Rattle.std.specs.List.{All};
 ghost use Rattle.col_arrays.specs.Items.{item_of};
 ghost use Rattle.key_parts.specs.Hashes.{hash_of};
 ghost use Rattle.hash_keys.specs.Gathered.{keys_at};
-ghost use Rattle.hash_keys.specs.Hashed.{AreHashed};
 ghost use Rattle.hash_keys.specs.Keys.{key_at};
 
 use col_arrays::{BinaryArray, IdxSize};
@@ -54,22 +53,6 @@ impl RowEncodedKeys {
             hashes,
             keys,
         })
-    }
-
-    /// Keys and their hashes, as they are kept.
-    pub(crate) fn from_parts(
-        state: PlRandomState,
-        hashes: Vec<u64>,
-        keys: BinaryArray,
-    ) -> RowEncodedKeys
-        requires { AreHashed state hashes.items keys }
-        ensures { result ≡ record { state = state; keys = map item_of keys } }
-    {
-        RowEncodedKeys {
-            state,
-            hashes,
-            keys,
-        }
     }
 
     /// The number of keys, nulls among them.

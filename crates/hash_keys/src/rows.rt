@@ -1,10 +1,9 @@
 //! The keys of the rows of a frame.
 ghost use Rattle.std.specs.Prelude.{◌≡◌, ◌<◌, ◌^◌, [], map, not, length, slice_index_or, IfOk};
 ghost use Rattle.std.specs.List.{All, list_any, range_with_len};
-ghost use Rattle.col_arrays.specs.Items.{item_of, stored};
+ghost use Rattle.col_arrays.specs.Items.{item_of};
 ghost use Rattle.col_core.specs.Tables.{selected, column_of, values_at};
 ghost use Rattle.col_core.specs.Values.{is_null};
-ghost use Rattle.key_parts.specs.Hashes.{hash_of};
 ghost use Rattle.row_code.specs.Spelling.{IsRowOf};
 ghost use Rattle.hash_keys.specs.Rows.{row_keys};
 
@@ -47,8 +46,7 @@ impl RowEncodedKeys {
         ensures rows { IfOk result (λ _. All (IsRowOf (selected places.now df.now).schema) (selected places.now df.now).rows) }
     {
         let keys = spelled_keys(alloc, df, places, null_is_valid)?;
-        let hashes = hashes_of(alloc, random_state, &keys)?;
-        Ok(RowEncodedKeys::from_parts(random_state, hashes, keys))
+        RowEncodedKeys::from_array(alloc, random_state, keys)
     }
 }
 
@@ -119,19 +117,4 @@ fn has_null(df: &Frame, places: &[usize], row: usize) -> bool
         }
     }
     false
-}
-
-/// The hash of each key, under a null too.
-fn hashes_of(
-    alloc: Global,
-    state: PlRandomState,
-    keys: &BinaryArray,
-) -> Result<Vec<u64>, AllocError>
-    ensures { IfOk result (λ hashes. hashes.items ≡ map (hash_of state) (stored keys.now)) }
-{
-    let mut hashes = Vec::with_capacity(alloc, keys.len())?;
-    for i in 0..keys.len() {
-        hashes.push(state.hash_one(keys.value(i)))?;
-    }
-    Ok(hashes)
 }
