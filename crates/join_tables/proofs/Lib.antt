@@ -1,0 +1,11 @@
+mod Extracted
+mod Dealt
+mod Counts
+mod States
+mod Ids
+mod Ordered
+mod Runs
+mod Taken
+mod Morsel
+mod Grown
+mod PartLists
