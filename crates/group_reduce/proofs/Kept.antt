@@ -119,7 +119,7 @@ reduced_type-plain kinds.Max t n = refl
 reduced_type-plain kinds.First t n = refl
 reduced_type-plain kinds.Last t n = refl
 
-Each-dealt : {A : Type 0} (P : A → Type 0) (p : ℕ) (is : List ℕ) (xs : List A) → Each P xs → Each P (dealt p is xs)
+pub Each-dealt : {A : Type 0} (P : A → Type 0) (p : ℕ) (is : List ℕ) (xs : List A) → Each P xs → Each P (dealt p is xs)
 Each-dealt P p [] xs h = tt
 Each-dealt P p (i ∷ is) [] h = tt
 Each-dealt {A} P p (i ∷ is) (x ∷ xs) h =

@@ -1,3 +1,4 @@
 pub mod Reducing
 pub mod Zips
 pub mod Nulls
+pub mod Masked

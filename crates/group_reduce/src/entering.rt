@@ -1,5 +1,5 @@
 //! Values of a column, and kept values, that enter kept values one by one.
-ghost use Rattle.std.specs.Prelude.{◌≡◌, ◌<◌, ◌-◌, ◌^◌, List, length, true, vec_len, IsOk, OnOk, OnErr};
+ghost use Rattle.std.specs.Prelude.{◌≡◌, ◌<◌, ◌≤◌, ◌-◌, ◌^◌, List, length, true, vec_capacity, IsOk, OnOk, OnErr};
 ghost use Rattle.std.specs.List.{All, AllZip};
 ghost use Rattle.col_core.specs.declared.data_type.DataType.{DataType};
 ghost use Rattle.reduce_states.specs.States.{State, start};
@@ -133,8 +133,22 @@ pub(crate) fn resize_values<R: Reducer>(
         return Ok(());
     }
     kept.reserve(wanted - held)?;
+    fill_values(reducer, kept, num_groups);
+    Ok(())
+}
+
+/// Adds values that stand for the state of nothing until there are so many, for which there is room.
+pub(crate) fn fill_values<R: Reducer>(reducer: R, kept: &mut Vec<R::Value>, num_groups: IdxSize)
+    requires fewer { length kept.old.items ≤ num_groups }
+    requires room { num_groups ≤ vec_capacity kept.old }
+    ensures long { length kept.new.items ≡ num_groups }
+    ensures fit { (t : DataType) → AllFit R.fits t kept.old.items → AllFit R.fits t kept.new.items }
+    ensures ok { (t : DataType) (xs : List State) → AllZip R.stands kept.old.items xs
+        → AllZip R.stands kept.new.items (cut_or_filled (start R.kind t) xs num_groups) }
+{
+    let held = kept.len();
+    let wanted = num_groups as usize;
     for _i in held..wanted {
         kept.push_reserved(reducer.init());
     }
-    Ok(())
 }

@@ -3,13 +3,15 @@
 
 mod entering;
 mod grouped;
+mod masked;
 mod nulls;
 mod reducer;
 mod vectors;
 mod wrapped;
 
 pub use grouped::{GroupedReduction, Stated};
+pub use masked::VecMaskGroupedReduction;
 pub use nulls::NullGroupedReduction;
 pub use reducer::Reducer;
 pub use vectors::VecGroupedReduction;
-pub use wrapped::parts_in;
+pub use wrapped::{parts_in, wrap_all};

@@ -9,12 +9,8 @@ use crate::grouped::{GroupedReduction, Stated};
 use col_core::IdxSize;
 use std::alloc::Global;
 
-/// Each part is wrapped and put at the end of `out`, which has the room.
-pub(crate) fn wrap_all<S: Drop, T, F: Fn(S) -> T + Drop>(
-    mut out: Vec<T>,
-    parts: Vec<S>,
-    wrap: F,
-) -> Vec<T>
+/// Each part is wrapped and put at the end of `out`, which is empty and has the room.
+pub fn wrap_all<S: Drop, T, F: Fn(S) -> T + Drop>(mut out: Vec<T>, parts: Vec<S>, wrap: F) -> Vec<T>
     requires empty { out.items ≡ [] }
     requires room { vec_len parts ≤ vec_capacity out }
     requires can { All (λ s. F.pre wrap s) parts.items }

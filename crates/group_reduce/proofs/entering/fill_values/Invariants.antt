@@ -4,7 +4,7 @@ use Rattle.col_core.specs.declared.data_type.DataType.{DataType}
 use Rattle.reduce_states.specs.States.{State, start}
 use Rattle.reduce_states.specs.Moves.{cut_or_filled}
 use Rattle.group_reduce.specs.Reducing.{AllFit}
-use Rattle.group_reduce.proofs.entering.resize_values.Given as goal
+use Rattle.group_reduce.proofs.entering.fill_values.Given as goal
 
 abbrev pub invariant-loop-i : goal.invariant-loop-i
 invariant-loop-i g l = record {
