@@ -5,7 +5,7 @@ mod States
 mod Ids
 mod Ordered
 mod Runs
-mod Taken
+mod Changed
 mod Morsel
 mod Grown
 mod PartLists

@@ -1,3 +1,3 @@
 pub mod Tables
 pub mod Probing
-pub mod Taken
+pub mod Changed

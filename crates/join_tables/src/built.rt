@@ -1,5 +1,6 @@
 //! The tables of the build side, one a partition.
-ghost use Rattle.std.specs.Prelude.{◌≡◌, ℕ, ◌+◌, ◌<◌, ◌≤◌, ◌^◌, [], IfOk, OnOk, map, length, get_or, replicate};
+ghost use Rattle.std.specs.Prelude.{◌≡◌, ℕ, ◌+◌, ◌<◌, ◌≤◌, ◌^◌, [], IfOk, OnOk, map, length};
+ghost use Rattle.std.specs.Prelude.{get_or, replicate};
 ghost use Rattle.std.specs.List.{All, flat_map};
 ghost use Rattle.hash_keys.specs.Views.{keys_of, state_of};
 ghost use Rattle.chunked_idx_table.specs.Tables.{empty_table};

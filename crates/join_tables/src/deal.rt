@@ -9,7 +9,7 @@ use key_parts::{HashPartitioner, IdxSize};
 use std::alloc::{AllocError, Global};
 
 /// Lists of rows, all empty.
-pub fn empty_lists(alloc: Global, count: usize) -> Result<Vec<Vec<IdxSize>>, AllocError>
+pub(crate) fn empty_lists(alloc: Global, count: usize) -> Result<Vec<Vec<IdxSize>>, AllocError>
     ensures { IfOk result (λ v. length v.items ≡ count) }
 {
     let mut lists = Vec::new(alloc);
@@ -21,7 +21,7 @@ pub fn empty_lists(alloc: Global, count: usize) -> Result<Vec<Vec<IdxSize>>, All
 
 /// The rows of each partition, in their order, in place of what the lists had. Null keys go to
 /// partition 0.
-pub fn deal(
+pub(crate) fn deal(
     keys: &HashKeys,
     partitioner: &HashPartitioner,
     lists: &mut Vec<Vec<IdxSize>>,

@@ -1,5 +1,6 @@
 //! Pairs that stand by partition, taken back in the order of the rows.
-ghost use Rattle.std.specs.Prelude.{◌≡◌, ℕ, ◌+◌, ◌<◌, ◌≤◌, ◌^◌, List, [], ◌∷◌, Some, IfOk, map, length, get_or, replicate, count_by};
+ghost use Rattle.std.specs.Prelude.{◌≡◌, ℕ, ◌+◌, ◌<◌, ◌≤◌, ◌^◌, List, [], ◌∷◌, Some, IfOk, map};
+ghost use Rattle.std.specs.Prelude.{length, get_or, replicate, count_by};
 ghost use Rattle.std.specs.List.{flat_map, All, range_with_len};
 ghost use Rattle.hash_keys.specs.Views.{keys_of, state_of};
 ghost use Rattle.key_parts.specs.Partitions.{partition_of};
@@ -62,7 +63,7 @@ fn pick_all(alloc: Global, found: &[Vec<Pair>], ids: &[ChunkId]) -> Result<Vec<P
 }
 
 /// The pairs of each row in turn.
-pub fn in_row_order(
+pub(crate) fn in_row_order(
     alloc: Global,
     partitioner: &HashPartitioner,
     keys: &HashKeys,

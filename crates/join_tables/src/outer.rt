@@ -1,5 +1,6 @@
 //! The build rows that no probe row has joined.
-ghost use Rattle.std.specs.Prelude.{◌≡◌, ℕ, ◌+◌, ◌*◌, ◌<◌, ◌^◌, Bool, List as Items, ◌++◌, Some, IfOk, OnOk, map, length, IsPermutation};
+ghost use Rattle.std.specs.Prelude.{◌≡◌, ℕ, ◌+◌, ◌*◌, ◌<◌, ◌^◌, Bool, List as Items, ◌++◌, Some};
+ghost use Rattle.std.specs.Prelude.{IfOk, OnOk, map, length, IsPermutation};
 ghost use Rattle.std.specs.List.{flat_map, All};
 ghost use Rattle.hash_keys.specs.Keys.{Key};
 ghost use Rattle.key_parts.specs.Positions.{Position, position};

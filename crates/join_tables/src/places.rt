@@ -1,5 +1,6 @@
 //! Where the rows of tables stand in their frames.
-ghost use Rattle.std.specs.Prelude.{◌≡◌, ◌<◌, ◌^◌, ◌++◌, ◌∷◌, [], IfOk, OnOk, map, length, get_or, Some};
+ghost use Rattle.std.specs.Prelude.{◌≡◌, ◌<◌, ◌^◌, ◌++◌, ◌∷◌, [], IfOk, OnOk, map, length, get_or};
+ghost use Rattle.std.specs.Prelude.{Some};
 ghost use Rattle.std.specs.List.{flat_map};
 ghost use Rattle.std.specs.Option.{option_map};
 ghost use Rattle.key_parts.specs.Positions.{Position, position};
@@ -13,7 +14,7 @@ use std::marker::Model;
 /// The rows of a frame, partition after partition, and where those of each partition start. The
 /// last start is the end.
 #[derive(Debug, Drop)]
-pub struct FramePlaces {
+pub(crate) struct FramePlaces {
     rows: Vec<IdxSize>,
     starts: Vec<IdxSize>,
 }
@@ -29,7 +30,7 @@ impl Model for FramePlaces {
 
 impl FramePlaces {
     /// The rows of each partition in turn.
-    pub fn new(alloc: Global, lists: &[Vec<IdxSize>]) -> Result<FramePlaces, AllocError>
+    pub(crate) fn new(alloc: Global, lists: &[Vec<IdxSize>]) -> Result<FramePlaces, AllocError>
         requires { length (flat_map (λ v. v.items) lists.now) < 2 ^ 32 }
         ensures { IfOk result (λ f. f ≡ map (λ v. v.items) lists.now) }
     {
@@ -44,7 +45,7 @@ impl FramePlaces {
     }
 
     /// The row at a number among those of a partition.
-    pub fn row(&self, partition: usize, number: IdxSize) -> IdxSize
+    pub(crate) fn row(&self, partition: usize, number: IdxSize) -> IdxSize
         requires { number < length (get_or self.now partition []) }
         ensures { result ≡ get_or (get_or self.now partition []) number 0 }
     {
@@ -69,7 +70,7 @@ impl Model for Places {
 
 impl Places {
     /// The places of no frame.
-    pub fn new(alloc: Global) -> Places
+    pub(crate) fn new(alloc: Global) -> Places
         ensures { result ≡ [] }
     {
         Places {
@@ -78,7 +79,7 @@ impl Places {
     }
 
     /// Takes the rows of one frame more.
-    pub fn push(&mut self, frame: FramePlaces) -> Result<(), AllocError>
+    pub(crate) fn push(&mut self, frame: FramePlaces) -> Result<(), AllocError>
         ensures ok { OnOk result (self.new ≡ self.old ++ frame ∷ []) }
     {
         self.frames.push(frame)?;
@@ -98,7 +99,7 @@ impl Places {
     }
 
     /// The build row of a match, or none where it is none.
-    pub fn build_of(&self, partition: usize, id: ChunkId) -> Option<RowPlace>
+    pub(crate) fn build_of(&self, partition: usize, id: ChunkId) -> Option<RowPlace>
         requires { FitsPlaces self.now partition (position id) }
         ensures { result ≡ option_map (row_of self.now partition) (position id) }
     {

@@ -1,11 +1,14 @@
 //! Probes of the tables, and the pairs that they give.
-ghost use Rattle.std.specs.Prelude.{◌≡◌, ℕ, ◌+◌, ◌<◌, ◌≤◌, ◌^◌, Bool, ◌||◌, List as Items, [], ◌++◌, IfOk, IfErr, OnOk, OnErr, map, length, get_or, take};
+ghost use Rattle.std.specs.Prelude.{◌≡◌, ℕ, ◌+◌, ◌<◌, ◌≤◌, ◌^◌, Bool, ◌||◌, List as Items, []};
+ghost use Rattle.std.specs.Prelude.{◌++◌, IfOk, IfErr, OnOk, OnErr, map, length, get_or, take};
 ghost use Rattle.std.specs.List.{flat_map, All};
 ghost use Rattle.hash_keys.specs.Keys.{Key};
 ghost use Rattle.hash_keys.specs.Views.{keys_of, state_of};
 ghost use Rattle.chunked_idx_table.specs.Probes.{joins_any};
-ghost use Rattle.join_laws.specs.Partitions.{no_table, AreBelow, AreFronts, TableFits, marked_parts};
-ghost use Rattle.join_tables.specs.Tables.{HaveState, StandsFor, StandsForMore, pairs_of, ProbeFails};
+ghost use Rattle.join_laws.specs.Partitions.{no_table, AreBelow, AreFronts, TableFits};
+ghost use Rattle.join_laws.specs.Partitions.{marked_parts};
+ghost use Rattle.join_tables.specs.Tables.{HaveState, StandsFor, StandsForMore, pairs_of};
+ghost use Rattle.join_tables.specs.Tables.{ProbeFails};
 ghost use Rattle.join_tables.specs.Probing.{found_in, all_found_in, with_rows_marked, MarksFront};
 
 use crate::built::Built;
@@ -26,7 +29,7 @@ use step_count::Steps;
 
 /// A morsel's keys, the places of the build rows, and how tables are probed.
 #[derive(Drop)]
-pub struct Probing<'a> {
+pub(crate) struct Probing<'a> {
     pub keys: &'a HashKeys,
     pub places: &'a Places,
     pub plan: &'a TablePlan,

@@ -11,14 +11,14 @@ use std::alloc::{AllocError, Global};
 
 /// A reply of a table: matches, each beside the row of its key.
 #[derive(Drop)]
-pub struct Reply {
+pub(crate) struct Reply {
     pub positions: Vec<ChunkId>,
     pub rows: Vec<IdxSize>,
 }
 
 impl Reply {
     /// A reply without a match.
-    pub fn new(alloc: Global) -> Reply {
+    pub(crate) fn new(alloc: Global) -> Reply {
         Reply {
             positions: Vec::new(alloc),
             rows: Vec::new(alloc),
@@ -27,7 +27,7 @@ impl Reply {
 }
 
 /// Appends the pairs of a reply.
-pub fn take_reply(
+pub(crate) fn take_reply(
     places: &Places,
     partition: usize,
     reply: &Reply,

@@ -10,7 +10,7 @@ use Rattle.join_laws.specs.Partitions.{no_table}
 use Rattle.join_laws.proofs.RowOrder.{count_short}
 use Rattle.join_tables.proofs.Grown.{part_few, chunks_few, size_few}
 use Rattle.join_tables.proofs.PartLists.{its, list_is, rows_more}
-use Rattle.join_tables.proofs.Taken.{changed_none, changed_more, changed_all, next_table, state_here}
+use Rattle.join_tables.proofs.Changed.{changed_none, changed_more, changed_all, next_table, state_here}
 use Rattle.join_tables.proofs.built.insert_parts.Goals as goal
 
 abbrev inserted : List Key → List (List ℕ) → ℕ → ProbeTable → ProbeTable

@@ -3,7 +3,7 @@ use Rattle.std.specs.List.{flat_map}
 use Rattle.hash_keys.specs.Views.{keys_of}
 use Rattle.chunked_idx_table.specs.Inserts.{with_chunk}
 use Rattle.chunked_idx_table.specs.Probes.{keys_at}
-use Rattle.join_tables.specs.Taken.{ChangedUpTo}
+use Rattle.join_tables.specs.Changed.{ChangedUpTo}
 use Rattle.join_tables.proofs.built.insert_parts.Given as goal
 
 abbrev pub invariant-loop-p : goal.invariant-loop-p

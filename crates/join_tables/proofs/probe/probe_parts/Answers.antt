@@ -14,7 +14,7 @@ use Rattle.join_tables.specs.Probing.{found_in, all_found_in, marks_rows, with_r
 use Rattle.join_tables.specs.declared.error.ProbeError.{ProbeError}
 use Rattle.join_tables.specs.declared.error.ProbeError.TheVariants.{TooLarge, Memory}
 use Rattle.join_tables.proofs.PartLists.{its, list_is, rows_more}
-use Rattle.join_tables.proofs.Taken.{changed_none, changed_more, changed_all, next_table, state_here, fronts_marked}
+use Rattle.join_tables.proofs.Changed.{changed_none, changed_more, changed_all, next_table, state_here, fronts_marked}
 use Rattle.join_tables.proofs.probe.probe_parts.Goals as goal
 
 abbrev pits : Vec Pair Global → List Pair

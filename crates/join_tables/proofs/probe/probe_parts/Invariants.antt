@@ -2,7 +2,7 @@ use Rattle.std.proofs.Common.{◌≡◌, ◌+◌, ◌≤◌, [], length, map, ge
 use Rattle.std.specs.List.{flat_map, range_with_len}
 use Rattle.join_laws.specs.Partitions.{no_table}
 use Rattle.join_tables.specs.Probing.{found_in, marks_rows}
-use Rattle.join_tables.specs.Taken.{ChangedUpTo}
+use Rattle.join_tables.specs.Changed.{ChangedUpTo}
 use Rattle.join_tables.proofs.probe.probe_parts.Given as goal
 
 abbrev pub invariant-loop-p : goal.invariant-loop-p

@@ -11,7 +11,7 @@ use Rattle.list_laws.proofs.Lists.{made_same}
 use Rattle.join_laws.specs.Partitions.{no_table, AreFronts}
 use Rattle.join_laws.proofs.Fronts.{front_none, front_whole}
 use Rattle.join_tables.specs.Tables.{HaveState}
-use Rattle.join_tables.specs.Taken.{ChangedUpTo}
+use Rattle.join_tables.specs.Changed.{ChangedUpTo}
 
 -- a table that is written, and the others
 pub written_here : (ts : List ProbeTable) (p : ℕ) (t : ProbeTable) → p < length ts → get_or (slice_set ts p t) p no_table ≡ t
