@@ -1,3 +1,5 @@
 pub mod Numbers
 pub mod Apart
 pub mod Columns
+pub mod Fronts
+pub mod Decoded
