@@ -2,10 +2,12 @@
 #![tactic(auto)]
 
 #[cfg(test)]
+mod choices;
+#[cfg(test)]
 mod comparisons;
+#[cfg(test)]
+mod extremes;
 #[cfg(test)]
 mod filters;
 #[cfg(test)]
 mod fixtures;
-#[cfg(test)]
-mod types;
