@@ -1,15 +1,18 @@
 -- What the probes of a morsel give, its rows having been dealt.
 use Rattle.std.proofs.Common.{◌≡◌, ℕ, ◌<◌, Bool, ◌||◌, List, map, length, flat_map, sym, ap, ◌∙◌, subst, bytes_eq, Vec, Global}
+use Rattle.std.specs.List.{range_with_len}
 use Rattle.std.proofs.lemmas.List.FromFn.{length-map-range_with_len}
+use Rattle.std.proofs.lemmas.Slice.Eq.{bytes_eq-Decides}
 use Rattle.key_parts.specs.declared.hash.PlRandomState.{PlRandomState}
 use Rattle.key_parts.specs.Partitions.{Partitioner, partition_of}
 use Rattle.hash_keys.specs.Keys.{Key}
 use Rattle.chunked_idx_table.specs.Probes.{joins_any}
 use Rattle.chunked_idx_table.specs.Tables.{ProbeTable}
 use Rattle.join_laws.specs.declared.Pair.{Pair}
-use Rattle.join_laws.specs.Pairs.{probed_pairs}
+use Rattle.join_laws.specs.Pairs.{nested_pairs}
 use Rattle.join_laws.specs.Partitions.{deals, dealt, table_of, AreBelow, AreFronts, IsFound, Stands, StandsMore, parts_pairs, marked_parts}
 use Rattle.join_laws.proofs.Found.{gives}
+use Rattle.join_laws.proofs.Pairs.{probed_are}
 use Rattle.join_laws.proofs.Morsels.{stands_found, stands_fronts, stands_joined, stands_long, stands_marked}
 use Rattle.join_laws.proofs.Sizes.{deals_below, deals_long}
 use Rattle.join_tables.proofs.PartLists.{its}
@@ -37,9 +40,13 @@ module _ (part : Key → ℕ) (state : PlRandomState) (n : ℕ) (frames : List (
     pub morsel_found : (keep : Bool) (found : List (List Pair)) → found ≡ parts_pairs places keep keys lists olds → IsFound part n keys (gives part state n frames keep keys) found
     morsel_found keep found e = stands_found part state n frames marked olds places s keys keep found (e ∙ ap (λ (ls : List (List ℕ)). parts_pairs places keep keys ls olds) l)
 
+    -- what the rows give in turn is what a loop over all build rows gives
+    pub morsel_pairs : (keep : Bool) → flat_map (gives part state n frames keep keys) (range_with_len 0 (length keys)) ≡ nested_pairs bytes_eq part frames keep keys
+    morsel_pairs keep = probed_are bytes_eq bytes_eq-Decides part frames keep keys
+
     -- as many pairs as row by row
-    pub morsel_count : ((o : Key) → part o < n) → (keep : Bool) → length (flat_map (λ q. q) (parts_pairs places keep keys lists olds)) ≡ length (probed_pairs bytes_eq part frames keep keys)
-    morsel_count below keep = ap (λ (ls : List (List ℕ)). length (flat_map (λ q. q) (parts_pairs places keep keys ls olds))) l ∙ stands_long part state n frames marked olds places s keys below keep
+    pub morsel_count : ((o : Key) → part o < n) → (keep : Bool) → length (flat_map (λ q. q) (parts_pairs places keep keys lists olds)) ≡ length (nested_pairs bytes_eq part frames keep keys)
+    morsel_count below keep = ap (λ (ls : List (List ℕ)). length (flat_map (λ q. q) (parts_pairs places keep keys ls olds))) l ∙ stands_long part state n frames marked olds places s keys below keep ∙ ap length (probed_are bytes_eq bytes_eq-Decides part frames keep keys)
 
     pub morsel_marked : (news : List ProbeTable) → news ≡ marked_parts keys lists olds → Stands part state n frames (λ k. marked k || joins_any keys k) news places
     morsel_marked news e = stands_marked part state n frames marked olds places s keys news (e ∙ ap (λ (ls : List (List ℕ)). marked_parts keys ls olds) l)

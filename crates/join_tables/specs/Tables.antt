@@ -8,7 +8,7 @@ use Rattle.hash_keys.specs.Views.{keys_of, state_of}
 use Rattle.hash_keys.specs.declared.keys.HashKeys.{HashKeys}
 use Rattle.chunked_idx_table.specs.Tables.{ProbeTable}
 use Rattle.join_laws.specs.declared.Pair.{Pair}
-use Rattle.join_laws.specs.Pairs.{probed_pairs}
+use Rattle.join_laws.specs.Pairs.{nested_pairs}
 use Rattle.join_laws.specs.Partitions.{IsFound, Stands, StandsMore}
 use Rattle.join_tables.specs.declared.built.Built.{Built}
 use Rattle.join_tables.specs.declared.error.ProbeError.{ProbeError}
@@ -27,9 +27,9 @@ StandsFor plan frames marked built = Stands (part_of plan) plan.state plan.parti
 abbrev pub StandsForMore : TablePlan → List (List Key) → (List ℕ → Bool) → List Key → Built → Type 0
 StandsForMore plan frames marked keys built = StandsMore (part_of plan) plan.state plan.partitioner.partitions frames marked keys built.tables built.places
 
--- the pairs of a morsel's rows: each row with the build rows of its key, or alone
+-- the pairs of a morsel's rows: each row with all build rows that it joins, in build order, or alone where it joins none and is kept
 abbrev pub pairs_of : TablePlan → List (List Key) → List Key → List Pair
-pairs_of plan frames keys = probed_pairs bytes_eq (part_of plan) frames plan.keep_probe keys
+pairs_of plan frames keys = nested_pairs bytes_eq (part_of plan) frames plan.keep_probe keys
 
 -- pairs are too many where they are more than were asked for; of want of memory nothing is said
 abbrev pub ProbeFails : ℕ → List Pair → ProbeError → Type 0

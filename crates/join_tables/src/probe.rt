@@ -173,7 +173,7 @@ fn probe_parts<L: Ledger>(
 /// The pairs of a morsel's rows in their order: each with the build rows that it joins, in build
 /// order, or alone where it joins none and the plan keeps it. Each matched key is marked, and the
 /// places stay. The tables are probed under the plan's limit, and at most one step a row is taken.
-/// For want of memory some of the keys that the morsel joins may have been marked.
+/// After an error some of the keys that the morsel joins may have been marked.
 pub fn probe_morsel<L: Ledger>(
     alloc: Global,
     plan: &TablePlan,

@@ -12,7 +12,7 @@ use Rattle.join_laws.proofs.Morsels.{stands_fits, stands_same}
 use Rattle.join_tables.specs.Tables.{part_of, HaveState, ProbeFails, pairs_of}
 use Rattle.join_tables.specs.declared.error.ProbeError.{ProbeError}
 use Rattle.join_tables.specs.declared.error.ProbeError.TheVariants.{TooLarge, Memory}
-use Rattle.join_tables.proofs.Morsel.{dealt_now, dealt_inside, dealt_parts, dealt_rows, stands_parts, morsel_found, morsel_count, morsel_marked, morsel_joined, morsel_fronts, found_under}
+use Rattle.join_tables.proofs.Morsel.{dealt_now, dealt_inside, dealt_parts, dealt_rows, stands_parts, morsel_found, morsel_count, morsel_marked, morsel_pairs, morsel_joined, morsel_fronts, found_under}
 use Rattle.join_tables.proofs.PartLists.{its, rows_flat}
 use Rattle.join_tables.proofs.States.{stands_state}
 use Rattle.join_tables.proofs.probe.probe_morsel.Goals as goal
@@ -108,7 +108,7 @@ returns-clause-pairs g c = λ frames marked s.
     let dealt = dealt_now plan.state (state_of c.args.keys.now) plan.partitioner keys c.deal.new.lists.items (map its c.deref.result.now) c.requires.same_state (ap (map its) c.deref.ensures.value) c.in_ok-deal.ensures.rows in
     let found : map pits c.deref-2.result.now ≡ parts_pairs c.args.built.now.places plan.keep_probe keys (map its c.deref.result.now) c.args.built.now.tables = ap (map pits) c.deref-2.ensures.value ∙ c.in_ok-found.ensures.found in
     let given = gives (part_of plan) plan.state plan.partitioner.partitions frames plan.keep_probe keys in
-    c.from_vec.ensures ∙ c.in_ok-pairs.ensures given (found_under plan.state (state_of c.args.keys.now) plan.partitioner keys given (map pits c.deref-2.result.now) c.requires.same_state (morsel_found (part_of plan) plan.state plan.partitioner.partitions frames marked c.args.built.now.tables c.args.built.now.places s keys (map its c.deref.result.now) dealt plan.keep_probe (map pits c.deref-2.result.now) found))
+    c.from_vec.ensures ∙ c.in_ok-pairs.ensures given (found_under plan.state (state_of c.args.keys.now) plan.partitioner keys given (map pits c.deref-2.result.now) c.requires.same_state (morsel_found (part_of plan) plan.state plan.partitioner.partitions frames marked c.args.built.now.tables c.args.built.now.places s keys (map its c.deref.result.now) dealt plan.keep_probe (map pits c.deref-2.result.now) found)) ∙ morsel_pairs (part_of plan) plan.state plan.partitioner.partitions frames marked c.args.built.now.tables c.args.built.now.places s keys (map its c.deref.result.now) dealt plan.keep_probe
 
 pub returns-clause-within : goal.returns-clause-within
 returns-clause-within g c =
