@@ -1,0 +1,9 @@
+pub mod Fields
+pub mod KeyBytes
+pub mod Sides
+pub mod Placed
+pub mod MorselRows
+pub mod OuterRows
+pub mod Plans
+pub mod BuildFrames
+pub mod Query
