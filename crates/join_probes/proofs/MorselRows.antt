@@ -1,5 +1,5 @@
 -- The pairs of a morsel, as rows, are those of the nested loops.
-use Rattle.std.proofs.Common.{◌≡◌, ℕ, ◌<◌, Bool, true, false, cond, List, [], ◌∷◌, ◌++◌, map, filter, flat_map, length, get_or, Option, Some, None, refl, sym, ap, ◌∙◌, subst, arith, bytes_eq}
+use Rattle.std.proofs.Common.{◌≡◌, ℕ, ◌<◌, Bool, true, false, cond, List, [], ◌∷◌, ◌++◌, map, filter, flat_map, length, get_or, Option, Some, None, refl, sym, ap, ◌∙◌, arith, bytes_eq}
 use Rattle.std.specs.List.{All, range_with_len}
 use Rattle.std.proofs.lemmas.List.{length-map}
 use Rattle.std.proofs.lemmas.Slice.Eq.{bytes_eq-Decides}
@@ -60,9 +60,8 @@ module _ (q : Query) (morsel : Table) (build : List Table) where
   each_pair =
       let keys = map (probe_key q) morsel.rows in
       let frames = build_frame_keys q build in
-      subst (Each (IsPair morsel build)) (sym (probed_are bytes_eq bytes_eq-Decides part frames q.keep_probe keys))
-      (Each-flat_map (IsPair morsel build) (λ i. pairs_with q.keep_probe i (filter (λ x. keys_join bytes_eq (get_or keys i None) (key_at bytes_eq part frames x)) (all_places bytes_eq part frames))) (range_with_len 0 (length keys))
-      (Each-range _ 0 (length keys) (λ i l m. each_with q.keep_probe i _ (omega (arith, m, length-map morsel.rows (probe_key q))) (Each-filter (IsPlace build) (λ x. keys_join bytes_eq (get_or keys i None) (key_at bytes_eq part frames x)) (all_places bytes_eq part frames) (places_inside q part build)))))
+      Each-flat_map (IsPair morsel build) (λ i. pairs_with q.keep_probe i (filter (λ x. keys_join bytes_eq (get_or keys i None) (key_at bytes_eq part frames x)) (all_places bytes_eq part frames))) (range_with_len 0 (length keys))
+      (Each-range _ 0 (length keys) (λ i l m. each_with q.keep_probe i _ (omega (arith, m, length-map morsel.rows (probe_key q))) (Each-filter (IsPlace build) (λ x. keys_join bytes_eq (get_or keys i None) (key_at bytes_eq part frames x)) (all_places bytes_eq part frames) (places_inside q part build))))
 
   pub pairs_inside : All (IsPair morsel build) pairs
   pairs_inside = All-from_Each (IsPair morsel build) pairs each_pair
@@ -87,6 +86,7 @@ module _ (q : Query) (morsel : Table) (build : List Table) where
         let table_rows = map (λ (t : Table). t.rows) build in
         let law : Pair → Row = law_row [] morsel.rows table_rows alone beside outer in
         map_same (pair_row q morsel build) law pairs (Each-weaker (IsPair morsel build) (λ pair. pair_row q morsel build pair ≡ law pair) pairs (λ pair h. same_joined pair.probe pair.build h) each_pair)
+        ∙ ap (map law) (sym (probed_are bytes_eq bytes_eq-Decides part (build_frame_keys q build) q.keep_probe (map (probe_key q) morsel.rows)))
         ∙ ap (λ (keys : List (List Key)). map law (probed_pairs bytes_eq part keys q.keep_probe (map (probe_key q) morsel.rows))) (sym (keys_flat q build))
         ∙ probed_rows bytes_eq bytes_eq-Decides part [] morsel.rows table_rows alone beside outer (build_key q) (probe_key q) q.keep_probe
         ∙ flat_map_same _ (rows_of_probe q (rows_of build)) morsel.rows (Each-weaker (HasKey q.probe_schema q.probe_keys) _ morsel.rows one_row (Each-from_All (HasKey q.probe_schema q.probe_keys) morsel.rows probe_spelled))
