@@ -308,16 +308,21 @@ fn are_spelled(alloc: Global, rows: &[&[u8]]) -> Result<bool, AllocError> {
     Ok(are_bytes(&encode_columns(alloc, &frame, &[0, 1])?, rows))
 }
 
-/// Whether these two rows are read from bytes.
-fn are_read(alloc: Global, rows: &[&[u8]]) -> Result<bool, AllocError> {
-    let schema = fields(alloc, &[DataType::Int16, DataType::String])?;
-    let mut read = RowDecoder::new(alloc, &schema)?;
+/// A decoder that took those of some bytes that are rows of a schema.
+fn decoder_of(alloc: Global, schema: &Schema, rows: &[&[u8]]) -> Result<RowDecoder, AllocError> {
+    let mut read = RowDecoder::new(alloc, schema)?;
     for bytes in rows {
-        if is_row(&schema, bytes) {
+        if is_row(schema, bytes) {
             read.push_row(bytes)?;
         }
     }
-    let frame = read.finish(alloc)?;
+    Ok(read)
+}
+
+/// Whether these two rows are read from bytes.
+fn are_read(alloc: Global, rows: &[&[u8]]) -> Result<bool, AllocError> {
+    let schema = fields(alloc, &[DataType::Int16, DataType::String])?;
+    let frame = decoder_of(alloc, &schema, rows)?.finish(alloc)?;
     match frame.columns() {
         [numbers, texts] => Ok(has_values(numbers, &NUMBERS) && has_values(texts, &TEXTS)),
         _ => Ok(false),
