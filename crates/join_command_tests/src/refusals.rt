@@ -134,11 +134,6 @@ fn queries_that_are_refused_by_filter_plan_and_form(rt: HostRuntime) -> Result<(
         ),
         (r#"["sum","#, r#"["min","#, "query refused: 9 NotBuilt\n"),
         (
-            r#"["cust"]}"#,
-            r#"["cust"],"keep_probe":true}"#,
-            "query refused: 9 NotBuilt\n",
-        ),
-        (
             r#""amt","Int64""#,
             r#""amt","Int8""#,
             "query refused: 9 NotBuilt\n",

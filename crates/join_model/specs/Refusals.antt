@@ -115,10 +115,6 @@ abbrev pub is_sum : ReductionKind → Bool
 is_sum kinds.Sum = true
 is_sum _ = false
 
--- a join key of more than one column, or of a column that is not `Int64`
-abbrev pub is_key_not_built : List Field → List (List ℕ) → Bool
-is_key_not_built schema names = nat_lt 1 (length names) || list_any (λ t. not (is_int64 t)) (types_named schema names)
-
 abbrev pub is_group_type : DataType → Bool
 is_group_type Int64 = true
 is_group_type String = true
@@ -133,11 +129,9 @@ abbrev pub is_one_sum : Query → List Reduction → Bool
 is_one_sum q (r ∷ []) = is_sum r.kind && is_int64 (ref_type q r.column)
 is_one_sum q _ = false
 
--- what the engine does not answer today: other join keys, kept rows, other group keys, other reductions
+-- what the engine does not answer today: other group keys, other reductions
 abbrev pub is_not_built : Query → Bool
-is_not_built q = is_key_not_built q.build_schema q.build_keys || is_key_not_built q.probe_schema q.probe_keys
-    || q.null_equal || q.keep_probe || q.keep_build
-    || is_group_not_built q q.group_keys || not (is_one_sum q q.reductions)
+is_not_built q = is_group_not_built q q.group_keys || not (is_one_sum q q.reductions)
 
 -- a side has 2^31 or more frames or rows
 abbrev pub is_too_large : List Table → Bool

@@ -169,12 +169,6 @@ pub fn refusal_examples()
 
 /// What the engine does not answer today, which comes before the length of the joined list.
 pub fn not_built_examples()
-    ensures kept_rows { refusal_of
-        (record inner_query {
-          keep_probe = true;
-          plan = record DEFAULT_PLAN { rows = 2 };
-        }) customer_frames order_frames
-        ≡ Some NotBuilt }
     ensures least { refusal_of
         (record inner_query {
           reductions = reduction Min (probe_column (codes "amt")) ∷ [];
@@ -190,12 +184,19 @@ pub fn not_built_examples()
           probe_schema = orders ++ field (codes "day") Date ∷ [];
           group_keys = probe_column (codes "day") ∷ [];
         }) [] [] ≡ Some NotBuilt }
+    ensures two_groups { refusal_of
+        (record inner_query {
+          group_keys = probe_column (codes "cust") ∷ probe_column (codes "amt") ∷ [];
+          plan = record DEFAULT_PLAN { rows = 2 };
+        }) customer_frames order_frames
+        ≡ Some NotBuilt }
     ensures other_column { refusal_of
         (record inner_query { probe_schema = orders ++ field (codes "day") Date ∷ [] }) [] []
         ≡ None }
+    ensures kept_rows { refusal_of outer_query customer_frames order_frames ≡ None }
     ensures two_keys { refusal_of
         (record inner_query {
           build_keys = codes "id" ∷ codes "id" ∷ [];
           probe_keys = codes "cust" ∷ codes "amt" ∷ [];
-        }) customer_frames order_frames ≡ Some NotBuilt }
+        }) customer_frames order_frames ≡ None }
 {}

@@ -4,11 +4,11 @@ ghost use Rattle.std.specs.List.{list_any};
 ghost use Rattle.std.specs.Result.{result_err};
 ghost use Rattle.reduce_model.specs.Folds.{has_no_sum, is_unsupported};
 ghost use Rattle.join_model.specs.ColumnRefs.{ref_type};
-ghost use Rattle.join_model.specs.Refusals.{lacks_keys, unsupported_reduction, is_integer, filter_is_unsupported, is_good_plan, is_int64, is_key_not_built, is_group_type, is_group_not_built, is_one_sum, is_not_built, is_too_large, checked_refusal};
+ghost use Rattle.join_model.specs.Refusals.{lacks_keys, unsupported_reduction, is_integer, filter_is_unsupported, is_good_plan, is_int64, is_group_type, is_group_not_built, is_one_sum, is_not_built, is_too_large, checked_refusal};
 
-use crate::columns::{ref_type, type_under, unknown_column};
+use crate::columns::{ref_type, unknown_column};
 use crate::schemas::schemas_differ;
-use col_core::{DataType, Frame, Name, Schema};
+use col_core::{DataType, Frame};
 use join_model::{
     ColumnRef, MAX_LIMIT, MAX_MORSEL, MAX_PARTITIONS, MAX_ROWS, MAX_STATES, Plan, Query,
     QueryError, Reduction, ReductionKind, SIDE_LIMIT,
@@ -94,13 +94,6 @@ fn is_int64(dtype: DataType) -> bool
     matches!(dtype, DataType::Int64)
 }
 
-// Whether a join key has more than one column, or one that is not `Int64`.
-fn is_key_not_built(schema: &Schema, names: &[Name]) -> bool
-    ensures { result ≡ is_key_not_built schema.now names.now }
-{
-    names.len() > 1 || names.iter().any(|name| !is_int64(type_under(schema, name)))
-}
-
 fn is_group_type(dtype: DataType) -> bool
     ensures { result ≡ is_group_type dtype }
 {
@@ -140,12 +133,7 @@ fn is_one_sum(query: &Query, reductions: &[Reduction]) -> bool
 fn is_not_built(query: &Query) -> bool
     ensures { result ≡ is_not_built query.now }
 {
-    is_key_not_built(&query.build_schema, query.build_keys.as_slice())
-        || is_key_not_built(&query.probe_schema, query.probe_keys.as_slice())
-        || query.null_equal
-        || query.keep_probe
-        || query.keep_build
-        || is_group_not_built(query, query.group_keys.as_slice())
+    is_group_not_built(query, query.group_keys.as_slice())
         || !is_one_sum(query, query.reductions.as_slice())
 }
 
