@@ -81,5 +81,4 @@ module _ (q : Query) (names : Names) (n : names ≡ q.probe_keys) (morsel : Tabl
           → IfErr r (λ e. (build : List Table) (marked : List ℕ → Bool) → IsBuilt q build marked old → MorselFails most (flat_map (rows_of_probe q (rows_of build)) morsel.rows) e)
       failures_given most h = IfErr-weaker r _ _ (λ e f build marked b. fails_now q plan p morsel keys (keys_here keys k) can (spelled_here spelled) build marked old most e b (f (build_frame_keys q build) marked (stands_now q plan p build marked old b))) h
 
-pub ruleset outer = (some_stand_few, outer_given, outer_placed)
-pub ruleset morsel = (some_stand, spelled_here, keys_long, pairs_inside, marks_given, marks_more, rows_given, failures_given)
+pub ruleset morsel_keys = (spelled_here, keys_long)

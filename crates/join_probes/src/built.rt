@@ -47,6 +47,7 @@ fn build_keys(
 
 /// The tables of the build side, one a partition of the query's plan, with no key marked. At most
 /// one step a build row is taken.
+#[tactic(auto, using(crate::proofs::Plans::good_plan))]
 pub fn build_tables<L: Ledger>(
     alloc: Global,
     query: &Query,

@@ -21,6 +21,7 @@ use step_count::Steps;
 /// The pairs of a morsel's rows in their order: each with the build rows that it joins, in build
 /// order, or alone where it joins none and the query keeps it. Each key that the morsel joins is
 /// marked. At most one step a row is taken. After an error some of these keys may have been marked.
+#[tactic(auto, using(crate::proofs::Plans::good_plan, crate::proofs::Calls::morsel_keys))]
 pub fn probe_morsel<L: Ledger>(
     alloc: Global,
     query: &Query,

@@ -16,6 +16,7 @@ use join_tables::Built;
 use std::alloc::{AllocError, Global};
 
 /// The places of the build rows whose key is null or not marked, in build order.
+#[tactic(auto, using(crate::proofs::Plans::good_plan))]
 pub fn unmatched_rows(
     alloc: Global,
     query: &Query,
