@@ -6,7 +6,7 @@ use Rattle.col_core.specs.Tables.{Column, header}
 use Rattle.col_core.specs.Values.{Fits}
 use Rattle.col_core.specs.declared.data_type.DataType.{DataType}
 use Rattle.col_core.specs.declared.schema.Field.{Field}
-use Rattle.join_engine.proofs.gather.schema_of_columns.Goals as goal
+use Rattle.pair_rows.proofs.gather.schema_of_columns.Goals as goal
 
 headers_more : (columns : List Column) (i : ℕ) (column : Column) → i < length columns → column ≡ get_or columns i column → map header (take (i + 1) columns) ≡ map header (take i columns) ++ header column ∷ []
 headers_more columns i column h e = ap (map header) (take_more columns i column h ∙ ap (λ (x : Column). take i columns ++ x ∷ []) (sym e)) ∙ map-append header (take i columns) (column ∷ [])

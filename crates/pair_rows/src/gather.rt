@@ -4,7 +4,8 @@ ghost use Rattle.std.specs.List.{All};
 ghost use Rattle.col_core.specs.Tables.{header, rows_from, values_of};
 ghost use Rattle.col_core.specs.Values.{Fits};
 ghost use Rattle.col_core.specs.Places.{IsPlaceIn};
-ghost use Rattle.join_engine.specs.Places.{AllHave, gathered, gathered_column};
+ghost use Rattle.join_probes.specs.Keys.{AllHave};
+ghost use Rattle.pair_rows.specs.Gathered.{gathered, gathered_column};
 
 use col_core::{Field, Frame, Name, RowPlace, Schema, Series, gather_column};
 use std::alloc::{AllocError, Global};

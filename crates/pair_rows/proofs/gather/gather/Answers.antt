@@ -3,8 +3,8 @@ use Rattle.std.specs.List.{range_with_len}
 use Rattle.std.proofs.lemmas.List.{append_assoc}
 use Rattle.std.proofs.lemmas.List.FromFn.{map-range_with_len_more}
 use Rattle.col_core.specs.Tables.{Column}
-use Rattle.join_engine.specs.Places.{gathered_column}
-use Rattle.join_engine.proofs.gather.gather.Goals as goal
+use Rattle.pair_rows.specs.Gathered.{gathered_column}
+use Rattle.pair_rows.proofs.gather.gather.Goals as goal
 
 -- one more column
 pub loop-c-preserved : goal.loop-c-preserved
