@@ -1,5 +1,5 @@
 -- The columns of both sides, gathered at the places of pairs, and the rows that they make.
-use Rattle.std.proofs.Common.{◌≡◌, ℕ, ◌<◌, List, [], ◌∷◌, ◌++◌, map, length, get_or, Option, Some, None, refl, sym, ap, ap₂, ◌∙◌, subst}
+use Rattle.std.proofs.Common.{◌≡◌, ℕ, ◌<◌, List, [], ◌∷◌, ◌++◌, map, length, get_or, Option, Some, None, refl, sym, ap, ap₂, ◌∙◌, subst, arith}
 use Rattle.std.specs.List.{All, range_with_len}
 use Rattle.std.proofs.lemmas.List.{length-map, map-append, get_or-map}
 use Rattle.std.proofs.lemmas.List.FromFn.{fill_by_all}
@@ -15,7 +15,7 @@ use Rattle.col_core.specs.Tables.{AreWide, Row, Table, Column, rows_from, header
 use Rattle.col_core.specs.Values.{value_at}
 use Rattle.col_core.proofs.Rows.{transposed}
 use Rattle.join_laws.specs.declared.Pair.{Pair}
-use Rattle.join_model.specs.Answers.{prefixed, joined_schema}
+use Rattle.join_model.specs.Answers.{joined_schema}
 use Rattle.join_model.specs.Joined.{nulls}
 use Rattle.join_query.specs.declared.query.Query.{Query}
 use Rattle.join_query.specs.declared.query.Side.TheVariants as sides
@@ -148,8 +148,16 @@ module _ (q : Query) (morsel : Table) (build : List Table) where
             (row_side q.probe_schema (morsel ∷ []) probe_place pair have_p all_wide is.0 ∙ probe_row_is pair.probe pair.build)
             (row_side q.build_schema build build_place pair have wide_b is.1 ∙ build_row_is pair.build)
 
-    -- the table of columns that were appended side by side
-    pub joined_table : (new first all : List Column) (ps bs : List (Option RowPlace)) (front_name back_name : List ℕ) → new ≡ [] → ps ≡ map probe_place pairs → bs ≡ map build_place pairs → front_name ≡ side_prefix sides.Probe → back_name ≡ side_prefix sides.Build
-        → first ≡ new ++ gathered front_name q.probe_schema (morsel ∷ []) ps → all ≡ first ++ gathered back_name q.build_schema build bs → all ≡ joined_columns
-    joined_table new first all ps bs front_name back_name n p b fn bn f a =
-        a ∙ rw (f, n, p, b, fn, bn) refl
+    -- columns that were appended side by side are those of both sides
+    pub columns_are : (frames : List Table) (probes builds : List (Option RowPlace)) (before first all : List Column) (front_name back_name : List ℕ) → frames ≡ morsel ∷ [] → probes ≡ map probe_place pairs → builds ≡ map build_place pairs
+        → front_name ≡ side_prefix sides.Probe → back_name ≡ side_prefix sides.Build → before ≡ [] → first ≡ before ++ gathered front_name q.probe_schema frames probes → all ≡ first ++ gathered back_name q.build_schema build builds → all ≡ joined_columns
+    columns_are frames probes builds before first all front_name back_name m p b f k none one two =
+        two ∙ rw (one, none, m, p, b, f, k) refl
+
+    -- and make the table of the pairs' rows
+    pub table_is : (all : List Column) → all ≡ joined_columns → morsel.schema ≡ q.probe_schema → AreWide morsel → AllHave q.build_schema build → All AreWide build → All (IsPair morsel build) pairs
+        → ◌≡◌ {A = Table} (record { schema = map header all; rows = rows_from (length pairs) (values_of all) }) (record { schema = joined_schema q; rows = map (pair_row q morsel build) pairs })
+    table_is all e same wide_p have_b wide_b inside =
+        let table : List Field → List Row → Table = λ schema rows. record { schema = schema; rows = rows } in
+        ap (λ (cs : List Column). table (map header cs) (rows_from (length pairs) (values_of cs))) e
+        ∙ ap₂ table joined_headers (joined_rows same wide_p have_b wide_b inside)

@@ -1,6 +1,6 @@
 -- Columns that grow side by side.
-use Rattle.std.specs.Prelude.{◌≡◌, ℕ, List, [], ◌++◌, map, length, slice_index_or}
-use Rattle.std.specs.List.{All, range_with_len}
+use Rattle.std.specs.Prelude.{◌≡◌, ◌<◌, ◌≤◌, ℕ, List, [], ◌++◌, map, length, get_or}
+use Rattle.std.specs.List.{All}
 use Rattle.col_core.specs.declared.schema.Field.{Field}
 use Rattle.col_core.specs.Tables.{Growing, Row, Table, rows_from, column_of, no_field}
 
@@ -17,14 +17,15 @@ growing_rows columns height = rows_from height (map (λ c. c.values) columns)
 abbrev pub empty_column : Field → Growing
 empty_column f = record { dtype = f.dtype; values = [] }
 
--- no column
-abbrev pub no_growing : Growing
-no_growing = empty_column no_field
+abbrev pub column_at : List Growing → ℕ → Growing
+column_at columns i = get_or columns i (empty_column no_field)
 
 -- a column with the values of a frame's column
-abbrev pub extended_column : Table → Growing → ℕ → Growing
-extended_column rows column c = record { dtype = column.dtype; values = column.values ++ column_of c rows.rows }
+abbrev pub extended : Table → ℕ → Growing → Growing
+extended rows i column = record { dtype = column.dtype; values = column.values ++ column_of i rows.rows }
 
--- columns with the rows of a frame
-abbrev pub extended : Table → List Growing → List Growing
-extended rows columns = map (λ c. extended_column rows (slice_index_or columns c no_growing) c) (range_with_len 0 (length columns))
+-- the columns below one have been extended, the others not
+pub record ExtendedUpTo (rows : Table) (i : ℕ) (olds news : List Growing) : Type 0 where
+  pub long : length news ≡ length olds
+  pub done : (c : ℕ) → c < i → column_at news c ≡ extended rows c (column_at olds c)
+  pub rest : (c : ℕ) → i ≤ c → column_at news c ≡ column_at olds c

@@ -2,7 +2,7 @@
 ghost use Rattle.std.specs.Prelude.{◌≡◌, ◌<◌, ◌^◌, ◌+◌, ◌++◌, [], map, length, IfOk};
 ghost use Rattle.std.specs.List.{All};
 ghost use Rattle.col_core.specs.Values.{Fits};
-ghost use Rattle.pair_rows.specs.Growing.{empty_column, extended};
+ghost use Rattle.pair_rows.specs.Growing.{empty_column};
 
 use col_core::{ColumnBuilder, Field, Frame, Name, Schema, Series};
 use std::alloc::{AllocError, Global};
@@ -33,18 +33,10 @@ impl Model for FrameBuilder {
 fn empty_columns(alloc: Global, fields: &[Field]) -> Result<Vec<ColumnBuilder>, AllocError>
     ensures { IfOk result (λ columns. columns.items ≡ map empty_column fields.now) }
 {
-    fields.iter().map(|field| ColumnBuilder::new(alloc, field.dtype)).collect(alloc)
-}
-
-/// Appends the rows of a frame to columns of its types.
-fn extend_columns(columns: &mut [ColumnBuilder], rows: &Frame) -> Result<(), AllocError>
-    requires { map (λ column. column.dtype) columns.old ≡ map (λ f. f.dtype) rows.now.schema }
-    ensures { OnOk result (columns.new ≡ extended rows.now columns.old) }
-{
-    for (i, column) in columns.iter_mut().enumerate() {
-        column.extend_from_range(rows.column(i), 0, rows.height())?;
-    }
-    Ok(())
+    fields
+        .iter()
+        .map(|field| ColumnBuilder::new(alloc, field.dtype))
+        .collect(alloc)
 }
 
 /// A column under a field's name. Its values fit its type.
@@ -57,6 +49,7 @@ fn finish_column(alloc: Global, column: ColumnBuilder, field: &Field) -> Result<
     Ok(finished)
 }
 
+#[tactic(auto, using(crate::proofs::Growing::growing))]
 impl FrameBuilder {
     /// No rows of a schema.
     pub fn new(alloc: Global, schema: Schema) -> Result<FrameBuilder, AllocError>
@@ -89,7 +82,9 @@ impl FrameBuilder {
             mut columns,
             height,
         } = self;
-        extend_columns(&mut columns, rows)?;
+        for i in 0..columns.len() {
+            columns[i].extend_from_range(rows.column(i), 0, rows.height())?;
+        }
         Ok(FrameBuilder {
             schema,
             columns,

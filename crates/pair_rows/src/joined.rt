@@ -25,7 +25,10 @@ fn morsel_place(row: IdxSize) -> RowPlace
 fn probe_places(alloc: Global, pairs: &[Pair]) -> Result<Vec<Option<RowPlace>>, AllocError>
     ensures { IfOk result (λ v. v.items ≡ map probe_place pairs.now) }
 {
-    pairs.iter().map(|pair| pair.probe.map(morsel_place)).collect(alloc)
+    pairs
+        .iter()
+        .map(|pair| pair.probe.map(morsel_place))
+        .collect(alloc)
 }
 
 /// The places of the build rows of pairs.

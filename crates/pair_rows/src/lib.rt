@@ -8,7 +8,9 @@
 mod builder;
 mod gather;
 mod joined;
+mod schema;
 
 pub use builder::FrameBuilder;
 pub use gather::frame_of_columns;
 pub use joined::join_rows;
+pub use schema::joined_schema;
