@@ -1,11 +1,11 @@
 -- What the calls on ready-made keys answer, in the words of a query.
-use Rattle.std.proofs.Common.{◌≡◌, ℕ, ◌+◌, ◌<◌, ◌≤◌, ◌^◌, ◌||◌, Bool, false, List, map, filter, flat_map, length, sym, ap, ◌∙◌, subst, arith, Result, IfOk, IfErr, OnOk, OnErr}
+use Rattle.std.proofs.Common.{◌≡◌, ℕ, ◌<◌, ◌^◌, ◌||◌, Bool, false, List, map, filter, flat_map, length, ap, ◌∙◌, subst, arith, Result, IfOk, IfErr, OnOk, OnErr}
 use Rattle.std.specs.List.{All}
 use Rattle.std.proofs.lemmas.List.{length-map}
 use Rattle.std.proofs.lemmas.Result.{IfOk-weaker, IfErr-weaker, on_ok_weaker, on_err_weaker}
 use Rattle.col_core.specs.declared.row_place.RowPlace.{RowPlace}
 use Rattle.col_core.specs.Places.{row_of, IsPlace}
-use Rattle.col_core.specs.Tables.{Row, Table}
+use Rattle.col_core.specs.Tables.{Table}
 use Rattle.hash_keys.specs.Keys.{Key}
 use Rattle.chunked_idx_table.specs.Probes.{joins_any}
 use Rattle.join_laws.specs.declared.Pair.{Pair}

@@ -1,5 +1,5 @@
 -- The fields of keys: their types, and where they stand.
-use Rattle.std.proofs.Common.{◌≡◌, ℕ, zero, suc, ◌+◌, ◌<◌, ◌≤◌, Bool, true, false, ◌||◌, cond, List, [], ◌∷◌, ◌++◌, map, length, get_or, take, Option, Some, None, is_some, is_none, refl, sym, ap, ap₂, ◌∙◌, subst, arith, inl, inr}
+use Rattle.std.proofs.Common.{◌≡◌, ℕ, suc, ◌+◌, ◌<◌, ◌≤◌, Bool, true, false, cond, List, [], ◌∷◌, ◌++◌, map, length, get_or, take, Option, Some, None, is_none, refl, sym, ap, ap₂, ◌∙◌, subst, arith, inl, inr}
 use Rattle.std.specs.Prelude.{◌⊎◌, IsSome, nat_lt, position}
 use Rattle.std.specs.List.{All, list_any, position_or_len}
 use Rattle.std.specs.Option.{option_map_or}
@@ -15,12 +15,10 @@ use Rattle.list_laws.proofs.Keys.{list_any-append, list_any-map}
 use Rattle.list_laws.proofs.Lists.{get_or_past}
 use Rattle.list_laws.proofs.Maps.{map_agree}
 use Rattle.col_core.specs.declared.schema.Field.{Field}
-use Rattle.col_core.specs.declared.data_type.DataType.{DataType}
-use Rattle.col_core.specs.declared.data_type.DataType.TheVariants.{Binary}
 use Rattle.col_core.specs.declared.leaf.Leaf.{Leaf}
 use Rattle.col_core.specs.declared.leaf.Leaf.TheVariants as leaves
 use Rattle.col_core.specs.Values.{value_at}
-use Rattle.col_core.specs.Schemas.{dtype_eq, field_position, type_named}
+use Rattle.col_core.specs.Schemas.{field_position, type_named}
 use Rattle.col_core.specs.Tables.{Row, field_at, no_field, values_at}
 use Rattle.col_core.proofs.Equalities.{dtype_eq-Decides}
 use Rattle.join_query.specs.declared.query.Query.{Query}
@@ -28,7 +26,7 @@ use Rattle.join_query.specs.declared.query.Side.TheVariants as sides
 use Rattle.join_query.specs.declared.query.ColumnRef.{ColumnRef}
 use Rattle.join_query.specs.declared.query.Reduction.{Reduction}
 use Rattle.join_model.specs.ColumnRefs.{type_under, named_columns, is_unknown, filter_columns}
-use Rattle.join_model.specs.Keys.{tuple, named_value}
+use Rattle.join_model.specs.Keys.{tuple}
 use Rattle.join_model.specs.Refusals.{types_named, have_same_types, unknown_column}
 use Rattle.join_probes.specs.Keys.{key_field, key_fields, AreKnown}
 

@@ -1,5 +1,5 @@
 -- The pairs of a morsel, as rows, are those of the nested loops.
-use Rattle.std.proofs.Common.{◌≡◌, ℕ, ◌<◌, Bool, true, false, cond, List, [], ◌∷◌, ◌++◌, map, filter, flat_map, length, get_or, Option, Some, None, refl, sym, ap, ◌∙◌, arith, bytes_eq}
+use Rattle.std.proofs.Common.{◌≡◌, ℕ, ◌<◌, Bool, true, false, List, [], ◌∷◌, ◌++◌, map, filter, flat_map, length, get_or, Option, Some, None, refl, sym, ap, ◌∙◌, arith, bytes_eq}
 use Rattle.std.specs.List.{All, range_with_len}
 use Rattle.std.proofs.lemmas.List.{length-map}
 use Rattle.std.proofs.lemmas.Slice.Eq.{bytes_eq-Decides}
@@ -11,12 +11,12 @@ use Rattle.list_laws.proofs.Maps.{flat_map_same}
 use Rattle.list_laws.proofs.Ranges.{Each-range}
 use Rattle.col_core.specs.declared.row_place.RowPlace.{RowPlace}
 use Rattle.col_core.specs.declared.schema.Field.{Field}
-use Rattle.col_core.specs.Places.{row_of, IsPlace}
+use Rattle.col_core.specs.Places.{IsPlace}
 use Rattle.col_core.specs.Tables.{Row, Table}
 use Rattle.hash_keys.specs.Keys.{Key}
 use Rattle.join_laws.specs.Deals.{all_places, key_at, keys_join}
 use Rattle.join_laws.specs.declared.Pair.{Pair}
-use Rattle.join_laws.specs.Pairs.{joined, nested_pairs, pairs_with, probed_pairs}
+use Rattle.join_laws.specs.Pairs.{joined, pairs_with, probed_pairs}
 use Rattle.join_laws.specs.Pairs.{pair_row as law_row, with_partners as law_partners}
 use Rattle.join_laws.proofs.Pairs.{probed_are, probed_rows}
 use Rattle.join_query.specs.declared.query.Query.{Query}

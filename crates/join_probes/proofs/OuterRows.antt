@@ -4,7 +4,7 @@ use Rattle.std.specs.List.{All}
 use Rattle.list_laws.proofs.Each.{Each-filter, All-from_Each}
 use Rattle.col_core.specs.declared.row_place.RowPlace.{RowPlace}
 use Rattle.col_core.specs.Places.{row_of, IsPlace}
-use Rattle.col_core.specs.Tables.{Row, Table}
+use Rattle.col_core.specs.Tables.{Table}
 use Rattle.join_laws.specs.Deals.{all_places, key_at}
 use Rattle.join_laws.specs.Outer.{is_outer}
 use Rattle.join_laws.specs.Partitions.{outer_rows}

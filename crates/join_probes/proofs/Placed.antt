@@ -1,5 +1,5 @@
 -- The places of the build rows, and the rows there.
-use Rattle.std.proofs.Common.{◌≡◌, ℕ, ◌<◌, Bool, List, [], ◌∷◌, map, filter, flat_map, length, get_or, refl, sym, ap, ◌∙◌, arith, bytes_eq}
+use Rattle.std.proofs.Common.{◌≡◌, ℕ, Bool, List, [], map, filter, flat_map, length, get_or, sym, ap, ◌∙◌, arith, bytes_eq}
 use Rattle.std.specs.List.{range_with_len}
 use Rattle.std.proofs.lemmas.List.{length-map}
 use Rattle.std.proofs.lemmas.List.Folds.{flat_map-map}

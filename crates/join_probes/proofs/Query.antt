@@ -1,5 +1,5 @@
 -- What the calls on ready-made keys say, in the words of a query.
-use Rattle.std.proofs.Common.{◌≡◌, ℕ, ◌+◌, ◌<◌, ◌≤◌, ◌^◌, ◌||◌, Bool, true, false, List, ◌++◌, map, filter, flat_map, length, refl, sym, ap, ap₂, ◌∙◌, subst, arith}
+use Rattle.std.proofs.Common.{◌≡◌, ℕ, ◌||◌, Bool, List, map, filter, flat_map, length, refl, sym, ap, ap₂, ◌∙◌, subst, arith}
 use Rattle.std.specs.List.{All}
 use Rattle.std.proofs.lemmas.List.{length-map}
 use Rattle.col_core.specs.declared.row_place.RowPlace.{RowPlace}
@@ -55,16 +55,16 @@ module _ (q : Query) (plan : TablePlan) (p : plan ≡ plan_of q) where
     pub more_now : (build : List Table) (marked : List ℕ → Bool) (old new : Built) → IsBuilt q build marked old → StandsForMore plan (build_frame_keys q build) marked keys new → IsBuiltMore q build marked morsel.rows new
     more_now build marked old new b s =
         let now : StandsForMore (plan_of q) (build_frame_keys q build) marked (map (probe_key q) morsel.rows) new =
-            subst (λ (ks : List Key). StandsForMore (plan_of q) (build_frame_keys q build) marked ks new) k
-            (subst (λ (x : TablePlan). StandsForMore x (build_frame_keys q build) marked keys new) p s) in
+        subst (λ (ks : List Key). StandsForMore (plan_of q) (build_frame_keys q build) marked ks new) k
+        (subst (λ (x : TablePlan). StandsForMore x (build_frame_keys q build) marked keys new) p s) in
         record { more = now.more; joined = now.joined; built = record { stands = now.stands; build_keys = b.build_keys } }
 
     pub marked_now : (build : List Table) (marked : List ℕ → Bool) (old new : Built) → IsBuilt q build marked old
         → StandsFor plan (build_frame_keys q build) (λ j. marked j || joins_any keys j) new → IsBuilt q build (λ j. marked j || is_joined q morsel.rows j) new
     marked_now build marked old new b s = record {
       stands =
-        subst (λ (ks : List Key). StandsFor (plan_of q) (build_frame_keys q build) (λ j. marked j || joins_any ks j) new) k
-        (subst (λ (x : TablePlan). StandsFor x (build_frame_keys q build) (λ j. marked j || joins_any keys j) new) p s);
+          subst (λ (ks : List Key). StandsFor (plan_of q) (build_frame_keys q build) (λ j. marked j || joins_any ks j) new) k
+          (subst (λ (x : TablePlan). StandsFor x (build_frame_keys q build) (λ j. marked j || joins_any keys j) new) p s);
       build_keys = b.build_keys;
     }
 

@@ -1,17 +1,14 @@
 -- The keys of the rows of a side, from the columns at the places of their names.
-use Rattle.std.proofs.Common.{◌≡◌, ℕ, ◌<◌, Bool, List, map, length, Option, Some, get_or, refl, sym, ap, ap₂, ◌∙◌, subst}
+use Rattle.std.proofs.Common.{◌≡◌, ℕ, ◌<◌, Bool, List, map, length, Some, get_or, sym, ap, ap₂, ◌∙◌, subst}
 use Rattle.std.specs.List.{All}
 use Rattle.std.proofs.lemmas.List.{get_or-map, length-map}
-use Rattle.std.proofs.lemmas.List.Elements.{All-map}
 use mathlib.Core.List.{map-map}
 use Rattle.list_laws.proofs.Maps.{map_agree}
 use Rattle.col_core.specs.declared.schema.Field.{Field}
 use Rattle.col_core.specs.Schemas.{field_position}
 use Rattle.col_core.specs.Tables.{Row, Table, field_at, selected, values_at}
-use Rattle.hash_keys.specs.Keys.{Key}
 use Rattle.hash_keys.specs.Rows.{key_of, row_keys}
 use Rattle.row_code.specs.Spelling.{IsRowOf}
-use Rattle.join_model.specs.Keys.{tuple}
 use Rattle.join_probes.specs.Keys.{key_fields, row_key, HasKey}
 use Rattle.join_probes.proofs.Fields.{fields_at, places_within, tuple_at}
 

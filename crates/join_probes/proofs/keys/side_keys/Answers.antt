@@ -1,4 +1,4 @@
-use Rattle.std.proofs.Common.{◌≡◌, ℕ, List, map, Option, Some, sym, ap, ◌∙◌}
+use Rattle.std.proofs.Common.{ℕ, List, map, Option, Some, sym, ap, ◌∙◌}
 use Rattle.std.proofs.lemmas.Result.{IfOk-weaker}
 use Rattle.join_probes.proofs.Sides.{side_within, side_spelled}
 use Rattle.join_probes.proofs.keys.side_keys.Goals as goal
