@@ -1,0 +1,16 @@
+mod Pairs
+mod Entered
+mod FirstRows
+mod States
+mod Members
+mod Counts
+mod Sources
+mod Fits
+mod Calls
+mod Takes
+mod Merges
+mod Few
+mod Ordered
+mod News
+pub mod History
+pub mod End
