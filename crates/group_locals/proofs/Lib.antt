@@ -8,6 +8,7 @@ mod Sources
 mod Fits
 mod Calls
 mod Takes
+mod Given
 mod Merges
 mod Few
 mod Ordered

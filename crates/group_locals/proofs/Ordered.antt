@@ -62,8 +62,9 @@ order_below n order perm = each order (λ g h. small g (list_any-IsPermutation (
     each [] f = tt
     each (g ∷ gs) f = (f g (rw (eq-eqb g g refl) refl), each gs (λ k h. f k (rw h (or_true (eqb g k)))))
 
-pub order_inside : (first_rows order : List ℕ) (n : ℕ) → length first_rows ≡ n → IsOrder first_rows order → All (λ g. g < n) order
-order_inside first_rows order n e o = All-from_Each (λ g. g < n) order (order_below n order (subst (λ (k : ℕ). IsPermutation (range_with_len 0 k) order) e o.whole))
+-- where each call has its own name for a list
+pub order_inside : (first_rows order os : List ℕ) (n : ℕ) → length first_rows ≡ n → IsOrder first_rows order → os ≡ order → All (λ g. g < n) os
+order_inside first_rows order os n e o same = All-from_Each (λ g. g < n) os (subst (Each (λ g. g < n)) (sym same) (order_below n order (subst (λ (k : ℕ). IsPermutation (range_with_len 0 k) order) e o.whole)))
 
 any_flat_map : {A B : Type 0} (p : B → Bool) (f : A → List B) (xs : List A) → list_any p (flat_map f xs) ≡ list_any (λ x. list_any p (f x)) xs
 any_flat_map p f [] = refl
