@@ -1,17 +1,14 @@
 -- The groups of local states that have taken all morsels, in any order, are the groups of all rows.
-use Rattle.std.proofs.Common.{◌≡◌, ◌≢◌, ℕ, zero, suc, ◌+◌, ◌<◌, ◌≤◌, min, eqb, List, [], ◌∷◌, ◌++◌, map, flat_map, length, refl, sym, ap, ap₂, ◌∙◌, subst, zero-add, arith, bytes_eq}
-use Rattle.std.specs.List.{range_with_len, count_by}
+use Rattle.std.proofs.Common.{◌≡◌, ℕ, ◌+◌, ◌<◌, ◌≤◌, List, [], ◌∷◌, ◌++◌, map, flat_map, length, refl, ap, ap₂, ◌∙◌, subst, zero-add, arith, bytes_eq}
+use Rattle.std.specs.List.{range_with_len}
 use Rattle.std.proofs.lemmas.Slice.Eq.{bytes_eq-Decides}
-use Rattle.col_core.specs.declared.leaf.Leaf.{Leaf}
 use Rattle.col_core.specs.Tables.{Column}
 use Rattle.reduce_model.specs.Folds.{fold_of}
 use Rattle.reduce_states.specs.States.{State, out}
 use Rattle.reduce_states.specs.Reductions.{Shape}
-use Rattle.list_laws.specs.Each.{Each}
 use Rattle.list_laws.specs.Distinct.{distinct}
 use Rattle.list_laws.specs.Orders.{IsWhole, taken}
-use Rattle.list_laws.specs.Places.{EachFrom, PairsFrom, At}
-use Rattle.list_laws.proofs.Ascending.{least-append}
+use Rattle.list_laws.specs.Places.{EachFrom, At}
 use Rattle.list_laws.proofs.Each.{Each-all}
 use Rattle.join_laws.specs.Locals.{Entry, HoldAll, Local, block, of_key, rows_of_morsels}
 use Rattle.join_laws.proofs.Bounds.{all_groups}
@@ -20,9 +17,9 @@ use Rattle.group_locals.specs.declared.groups.Groups.{Groups}
 use Rattle.group_locals.specs.declared.local.LocalState.{LocalState}
 use Rattle.group_locals.specs.Rows.{KeyedRow, values_for, entry_key, merge_of, column_state, top, first_number}
 use Rattle.group_locals.specs.Locals.{Grouping}
-use Rattle.group_locals.specs.Merging.{AreColumns, first_column, keys_in, merged_state}
+use Rattle.group_locals.specs.Merging.{AreColumns, first_column, keys_in}
 use Rattle.group_locals.specs.Orders.{AreMergedGroups, MergedColumn, ordered_keys}
-use Rattle.group_locals.specs.History.{AreGroupsOf, GroupColumn, LocalHolds, LocalsHold, all_keys, rows_with, taken_by}
+use Rattle.group_locals.specs.History.{AreGroupsOf, GroupColumn, LocalHolds, LocalsHold, all_keys, taken_by}
 use Rattle.group_locals.proofs.Pairs.{pairs_at_place, pairs_placed}
 use Rattle.group_locals.proofs.States.{column_state-append, column_state-comm, column_state-out}
 
@@ -82,6 +79,7 @@ module _ {R : Type 0} (holds : R → List State → Type 0) (of : Grouping) (ms 
       pub groups_end : AreGroupsOf of ms g
       groups_end = record {
         schema_is = groups.schema_is;
+        inside = groups.inside;
         keys_are = keys_are;
         columns_are = pairs_placed (MergedColumn holds locals (ordered_keys g)) (GroupColumn ms) of.shapes g.columns column_is groups.columns_are;
       }

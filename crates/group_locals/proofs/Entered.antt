@@ -1,23 +1,22 @@
 -- Items that enter groups one by one, and what each group has at the end.
-use Rattle.std.proofs.Common.{◌≡◌, ℕ, zero, suc, ◌+◌, ◌-◌, ◌<◌, ◌≤◌, eqb, Bool, true, false, ◌||◌, cond, List, [], ◌∷◌, ◌++◌, map, filter, fold, length, get_or, set, replicate, zip, refl, sym, ap, ap₂, ◌∙◌, subst, inl, inr, arith, bytes_eq}
+use Rattle.std.proofs.Common.{◌≡◌, ℕ, zero, suc, ◌+◌, ◌-◌, ◌<◌, ◌≤◌, eqb, Bool, true, false, ◌||◌, cond, List, [], ◌∷◌, ◌++◌, map, fold, length, get_or, set, replicate, refl, sym, ap, ◌∙◌, subst, inl, inr, arith, bytes_eq}
 use Rattle.std.specs.List.{range_with_len, list_any}
 use Rattle.std.proofs.lemmas.Bool.{cases_Bool, eqb-true, eqb-false}
 use Rattle.std.proofs.lemmas.List.{length-map, length-set, get_or-set_same, get_or-set_other, take_all, length-append, length-replicate}
 use Rattle.std.proofs.lemmas.Slice.Eq.{bytes_eq-Decides}
 use Rattle.list_laws.specs.Each.{Each}
 use Rattle.list_laws.specs.Distinct.{NoRepeat}
-use Rattle.list_laws.proofs.Each.{Each-append, Each-map, Each-weaker}
+use Rattle.list_laws.proofs.Each.{Each-append, Each-map}
 use Rattle.list_laws.proofs.Lists.{map_same}
 use Rattle.list_laws.proofs.Keys.{any_from, same_self}
 use Rattle.list_laws.proofs.Maps.{read_all}
 use Rattle.list_laws.proofs.Ranges.{Each-range}
 use Rattle.reduce_states.specs.Moves.{entered, cut_or_filled}
-use Rattle.join_laws.specs.Locals.{Entry, Takes}
+use Rattle.join_laws.specs.Locals.{Entry}
 use Rattle.join_laws.specs.Steps.{TookKeys, combined, entering, index_in, resized, updated}
 use Rattle.join_laws.proofs.Steps.{index_below, more_keys, takes}
 use Rattle.group_locals.specs.Rows.{KeyedRow, entry_key}
 use Rattle.group_locals.specs.Locals.{taken_values}
-use Rattle.group_locals.specs.Merging.{places_in}
 
 module _ {V : Type 0} (d : V) where
   -- what a group has after one was set

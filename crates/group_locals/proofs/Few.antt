@@ -1,8 +1,8 @@
 -- The keys of all local states are few, since their first rows differ.
-use Rattle.std.proofs.Common.{◌≡◌, ℕ, zero, suc, ◌+◌, ◌<◌, ◌≤◌, ◌^◌, min, Bool, true, false, ◌||◌, List, [], ◌∷◌, ◌++◌, map, flat_map, fold, length, get_or, take, drop, zip, refl, sym, ap, ◌∙◌, subst, inl, inr, append-nil, arith, bytes_eq}
+use Rattle.std.proofs.Common.{◌≡◌, ℕ, zero, suc, ◌+◌, ◌<◌, ◌≤◌, ◌^◌, min, true, false, List, [], ◌∷◌, ◌++◌, map, flat_map, fold, length, get_or, take, drop, refl, sym, ap, ◌∙◌, subst, inl, inr, arith, bytes_eq}
 use Rattle.std.specs.List.{list_any}
 use Rattle.std.proofs.lemmas.Bool.{cases_Bool, cases_lt, false≢true}
-use Rattle.std.proofs.lemmas.List.{length-append, take_more, take-append-drop}
+use Rattle.std.proofs.lemmas.List.{length-append, take-append-drop}
 use Rattle.std.proofs.lemmas.List.Concat.{flat_map-append}
 use Rattle.std.proofs.lemmas.List.Sums.{fold-append}
 use Rattle.std.proofs.lemmas.Slice.Eq.{bytes_eq-Decides}
@@ -20,7 +20,7 @@ use Rattle.group_locals.specs.Locals.{Grouping, LocalFits, LocalsFit, kept}
 use Rattle.group_locals.specs.Merging.{first_column, keys_in}
 use Rattle.group_locals.proofs.Counts.{count_keys}
 use Rattle.group_locals.proofs.Members.{Within, within_left, within_right}
-use Rattle.group_locals.proofs.Sources.{Noted, apart_at, apart_within, at_key_below, at_key_in}
+use Rattle.group_locals.proofs.Sources.{apart_at, apart_within, at_key_below, at_key_in}
 
 each_front : {X : Type 0} (P : X → Type 0) (n : ℕ) (xs : List X) → Each P xs → Each P (take n xs)
 each_front P zero [] h = tt
@@ -60,33 +60,33 @@ module _ {R : Type 0} (shape : R → Shape) (of : Grouping) where
   least_in [] k v fits small less = absurd (omega arith)
   least_in (l ∷ ls) k v fits small less = elim (cases_Bool (list_any (λ s. bytes_eq s k) l.grouper.keys)) [
     | inl h ↦
-      let a = at_key bytes_eq l.grouper.keys l.first_rows k top in
-      let e = there l ls k v h in
-      elim (cases_lt (least_from (min v a) ls k) (min v a)) [
-        | inl low ↦ subst (λ (w : ℕ). IsIn (k, w) (kept l ++ flat_map kept ls)) (sym e) (within_right (kept l) (flat_map kept ls) (k, least_from (min v a) ls k) (least_in ls k (min v a) fits.1 (omega arith) low))
-        | inr high ↦
-          let most = least_most ls k (min v a) in
-          let f : least_from v (l ∷ ls) k ≡ a = omega arith in
-          subst (λ (w : ℕ). IsIn (k, w) (kept l ++ flat_map kept ls)) (sym f) (within_left (kept l) (flat_map kept ls) (k, a) (at_key_in l.grouper.keys l.first_rows k fits.0.long (omega arith)))
-      ]
+        let a = at_key bytes_eq l.grouper.keys l.first_rows k top in
+        let e = there l ls k v h in
+        elim (cases_lt (least_from (min v a) ls k) (min v a)) [
+          | inl low ↦ subst (λ (w : ℕ). IsIn (k, w) (kept l ++ flat_map kept ls)) (sym e) (within_right (kept l) (flat_map kept ls) (k, least_from (min v a) ls k) (least_in ls k (min v a) fits.1 (omega arith) low))
+          | inr high ↦
+              let most = least_most ls k (min v a) in
+              let f : least_from v (l ∷ ls) k ≡ a = omega arith in
+              subst (λ (w : ℕ). IsIn (k, w) (kept l ++ flat_map kept ls)) (sym f) (within_left (kept l) (flat_map kept ls) (k, a) (at_key_in l.grouper.keys l.first_rows k fits.0.long (omega arith)))
+        ]
     | inr h ↦
-      let e = absent l ls k v h in
-      subst (λ (w : ℕ). IsIn (k, w) (kept l ++ flat_map kept ls)) (sym e) (within_right (kept l) (flat_map kept ls) (k, least_from v ls k) (least_in ls k v fits.1 small (omega arith)))
+        let e = absent l ls k v h in
+        subst (λ (w : ℕ). IsIn (k, w) (kept l ++ flat_map kept ls)) (sym e) (within_right (kept l) (flat_map kept ls) (k, least_from v ls k) (least_in ls k v fits.1 small (omega arith)))
   ]
 
   least_below : (ls : List (LocalState R)) (k : List ℕ) (v : ℕ) → Each (LocalFits shape of) ls → list_any (λ s. bytes_eq s k) (keys_in ls) ≡ true → least_from v ls k < top
   least_below [] k v fits i = absurd (false≢true i)
   least_below (l ∷ ls) k v fits i = elim (cases_Bool (list_any (λ s. bytes_eq s k) l.grouper.keys)) [
     | inl h ↦
-      let e = there l ls k v h in
-      let r = least_most ls k (min v (at_key bytes_eq l.grouper.keys l.first_rows k top)) in
-      let b = at_key_below l.grouper.keys l.first_rows k fits.0.long fits.0.below h in
-      omega arith
+        let e = there l ls k v h in
+        let r = least_most ls k (min v (at_key bytes_eq l.grouper.keys l.first_rows k top)) in
+        let b = at_key_below l.grouper.keys l.first_rows k fits.0.long fits.0.below h in
+        omega arith
     | inr h ↦
-      let e = absent l ls k v h in
-      let j = sym (list_any-append (λ s. bytes_eq s k) l.grouper.keys (keys_in ls)) ∙ i in
-      let r = least_below ls k v fits.1 (rw h at j) in
-      omega arith
+        let e = absent l ls k v h in
+        let j = sym (list_any-append (λ s. bytes_eq s k) l.grouper.keys (keys_in ls)) ∙ i in
+        let r = least_below ls k v fits.1 (rw h at j) in
+        omega arith
   ]
 
   pub few_all : (ls : List (LocalState R)) → LocalsFit shape of ls → length (distinct bytes_eq (keys_in ls)) ≤ top

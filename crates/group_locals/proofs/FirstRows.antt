@@ -1,6 +1,6 @@
 -- First rows that row numbers enter, one by one and all.
-use Rattle.std.proofs.Common.{◌≡◌, ℕ, zero, suc, ◌+◌, ◌<◌, ◌≤◌, min, List, [], ◌∷◌, map, fold, length, get_or, set, take, replicate, ◌-◌, refl, sym, ap, ◌∙◌, subst, arith, bytes_eq}
-use Rattle.std.specs.List.{range_with_len, All}
+use Rattle.std.proofs.Common.{◌≡◌, ℕ, ◌+◌, ◌<◌, ◌≤◌, min, List, [], ◌∷◌, map, fold, length, get_or, set, take, replicate, ◌-◌, refl, sym, ap, ◌∙◌, arith, bytes_eq}
+use Rattle.std.specs.List.{range_with_len}
 use Rattle.std.proofs.lemmas.List.{length-append, length-replicate, length-take, take_all}
 use Rattle.list_laws.specs.Each.{Each}
 use Rattle.list_laws.specs.Distinct.{NoRepeat}

@@ -1,5 +1,5 @@
 -- Local states that fit still do after rows entered one of them, and there is room for their keys.
-use Rattle.std.proofs.Common.{◌≡◌, ℕ, zero, suc, ◌+◌, ◌<◌, ◌≤◌, ◌^◌, true, List, [], ◌∷◌, ◌++◌, map, flat_map, length, get_or, zip, refl, sym, ap, ◌∙◌, subst, append_assoc, arith, bytes_eq}
+use Rattle.std.proofs.Common.{◌≡◌, ℕ, zero, suc, ◌+◌, ◌<◌, ◌≤◌, ◌^◌, true, List, [], ◌∷◌, ◌++◌, map, flat_map, length, get_or, zip, refl, sym, ap, ◌∙◌, subst, arith, bytes_eq}
 use Rattle.std.specs.List.{list_any, All}
 use Rattle.std.proofs.lemmas.List.{length-map}
 use Rattle.std.proofs.lemmas.Slice.Eq.{bytes_eq-Decides}
@@ -9,13 +9,13 @@ use Rattle.reduce_states.specs.States.{State}
 use Rattle.reduce_states.specs.Reductions.{Shape}
 use Rattle.list_laws.specs.Each.{Each}
 use Rattle.list_laws.specs.Distinct.{NoRepeat}
-use Rattle.list_laws.specs.Places.{IsIn, PairsFrom, ChangedAt}
+use Rattle.list_laws.specs.Places.{IsIn, ChangedAt}
 use Rattle.list_laws.proofs.Each.{All-from_Each}
 use Rattle.list_laws.proofs.Keys.{no_repeat_from}
 use Rattle.join_laws.specs.Locals.{Entry, entries_from}
 use Rattle.group_locals.specs.declared.local.LocalState.{LocalState}
 use Rattle.group_locals.specs.Rows.{KeyedRow, entry_key, top}
-use Rattle.group_locals.specs.Locals.{Grouping, IsOf, LocalFits, LocalsFit, LocalTakes, TakesColumn, AreApart, AreFresh, kept, sized}
+use Rattle.group_locals.specs.Locals.{Grouping, LocalFits, LocalsFit, LocalTakes, TakesColumn, AreFresh, kept, sized}
 use Rattle.group_locals.proofs.Counts.{count_keys}
 use Rattle.group_locals.proofs.Entered.{length-took, took_inside, took_more}
 use Rattle.group_locals.proofs.Members.{Within, within_left, within_right, within_both, within_ends, within_rest}

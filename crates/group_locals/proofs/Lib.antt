@@ -8,10 +8,13 @@ mod Sources
 mod Fits
 mod Calls
 mod Takes
-mod Given
+mod MorselFits
 mod Merges
 mod Few
 mod Ordered
 mod News
 pub mod History
+pub mod Fresh
+pub mod Ranges
 pub mod End
+pub mod Tuples

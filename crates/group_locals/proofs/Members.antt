@@ -1,5 +1,5 @@
 -- What stands in a list, and lists within lists.
-use Rattle.std.proofs.Common.{◌≡◌, ◌⊎◌, ℕ, List, [], ◌∷◌, ◌++◌, map, refl, sym, ap, subst, inl, inr, append_assoc}
+use Rattle.std.proofs.Common.{List, [], ◌∷◌, ◌++◌, refl, sym, subst, inl, inr, append_assoc}
 use Rattle.list_laws.specs.Each.{Each}
 use Rattle.list_laws.specs.Places.{IsIn}
 

@@ -1,7 +1,6 @@
 -- Local states merged one after the other.
-use Rattle.std.proofs.Common.{◌≡◌, ℕ, zero, suc, ◌+◌, ◌<◌, min, List, [], ◌∷◌, ◌++◌, map, flat_map, length, get_or, take, refl, sym, ap, ap₂, ◌∙◌, subst, append-nil, arith, bytes_eq}
+use Rattle.std.proofs.Common.{◌≡◌, ℕ, zero, suc, ◌+◌, ◌<◌, min, List, [], ◌∷◌, ◌++◌, map, flat_map, length, get_or, take, refl, sym, ap, ap₂, ◌∙◌, subst, bytes_eq}
 use Rattle.std.proofs.lemmas.List.{length-map, map-append, take_more}
-use Rattle.std.proofs.lemmas.List.Folds.{flat_map-map}
 use Rattle.std.proofs.lemmas.Slice.Eq.{bytes_eq-Decides}
 use Rattle.col_core.specs.declared.schema.Field.{Field}
 use Rattle.key_parts.specs.declared.hash.PlRandomState.{PlRandomState}
@@ -18,7 +17,7 @@ use Rattle.join_laws.specs.Steps.{TookKeys, MergedSoFar, combined, resized}
 use Rattle.join_laws.proofs.Merges.{merges_more}
 use Rattle.group_locals.specs.declared.local.LocalState.{LocalState}
 use Rattle.group_locals.specs.Rows.{start_of, merge_of, top}
-use Rattle.group_locals.specs.Locals.{Grouping, IsOf, LocalFits, sized}
+use Rattle.group_locals.specs.Locals.{Grouping, LocalFits, sized}
 use Rattle.group_locals.specs.Columns.{AreEmptied, CombinesColumn, IsEmptied, entered_states}
 use Rattle.group_locals.specs.Merging.{places_in, LocalMerges, keys_in, first_column, merged_first, AreColumns, merged_state, MergesAll}
 use Rattle.group_locals.proofs.Entered.{entered_combined}

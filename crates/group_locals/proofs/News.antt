@@ -10,10 +10,10 @@ use Rattle.list_laws.proofs.Each.{Each-weaker}
 use Rattle.join_laws.specs.Locals.{of_key}
 use Rattle.group_locals.specs.declared.local.LocalState.{LocalState}
 use Rattle.group_locals.specs.Rows.{entry_key, column_state, top, first_number}
-use Rattle.group_locals.specs.Locals.{Grouping, LocalFits, LocalsFit, AreApart, grouping_of, kept, sized}
+use Rattle.group_locals.specs.Locals.{Grouping, LocalFits, LocalsFit, FirstsDiffer, grouping_of, kept, sized}
 use Rattle.group_locals.specs.Columns.{AreEmptied, IsEmptied}
 use Rattle.group_locals.specs.History.{LocalHolds}
-use Rattle.group_locals.proofs.Pairs.{pairs_alike, alike_pairs, pairs_via}
+use Rattle.group_locals.proofs.Pairs.{alike_pairs, pairs_via}
 
 module _ {R : Type 0} (shape : R → Shape) (holds : R → List State → Type 0) (g : KeyGroups) (rs : List R) where
   -- a local state without groups, like the grouper and the reductions
@@ -58,7 +58,7 @@ module _ {R : Type 0} (shape : R → Shape) (holds : R → List State → Type 0
   pub news_fit : (ls : List (LocalState R)) → Each IsNew ls → LocalsFit shape (grouping_of g (map shape rs)) ls
   news_fit ls new = record {
     each = Each-weaker IsNew (LocalFits shape (grouping_of g (map shape rs))) ls new_fits new;
-    apart = subst AreApart (sym (nothing ls new)) tt;
+    apart = subst FirstsDiffer (sym (nothing ls new)) tt;
   }
     where
       nothing : (ls : List (LocalState R)) → Each IsNew ls → flat_map kept ls ≡ []

@@ -1,9 +1,8 @@
 -- Groups in the order of their first rows are the merged groups.
-use Rattle.std.proofs.Common.{◌≡◌, ℕ, zero, suc, ◌+◌, ◌<◌, ◌≤◌, ◌^◌, min, eqb, Bool, true, false, ◌||◌, List, [], ◌∷◌, map, length, get_or, IsPermutation, refl, sym, ap, ap₂, ◌∙◌, subst, inl, inr, arith, bytes_eq}
+use Rattle.std.proofs.Common.{◌≡◌, ℕ, zero, suc, ◌+◌, ◌<◌, ◌≤◌, eqb, Bool, true, false, ◌||◌, List, [], ◌∷◌, map, length, get_or, IsPermutation, refl, sym, ap, ap₂, ◌∙◌, subst, inl, inr, arith, bytes_eq}
 use Rattle.std.specs.List.{list_any, range_with_len, All, flat_map}
 use Rattle.std.proofs.lemmas.Bool.{cases_Bool, cases_lt, false≢true, eq-eqb}
 use Rattle.std.proofs.lemmas.List.{length-map, get_or-map}
-use Rattle.std.proofs.lemmas.List.FromFn.{length-range_with_len}
 use Rattle.std.proofs.lemmas.List.Sorted.{list_any-IsPermutation, IsPermutation-map}
 use Rattle.std.proofs.lemmas.Slice.Eq.{bytes_eq-Decides}
 use mathlib.Core.List.{map-map}
@@ -21,9 +20,7 @@ use Rattle.list_laws.specs.Distinct.{NoRepeat}
 use Rattle.list_laws.specs.Places.{PairsFrom}
 use Rattle.list_laws.proofs.Each.{All-from_Each}
 use Rattle.list_laws.proofs.Keys.{any_distinct, distinct_apart, list_any-append}
-use Rattle.list_laws.proofs.Lists.{map_same}
 use Rattle.list_laws.proofs.Maps.{read_all}
-use Rattle.list_laws.proofs.Ranges.{Each-range}
 use Rattle.join_laws.specs.Locals.{Local}
 use Rattle.join_laws.proofs.Steps.{sorted_keys}
 use Rattle.group_locals.specs.declared.groups.Groups.{Groups}
@@ -95,6 +92,8 @@ module _ {R : Type 0} (shape : R → Shape) (holds : R → List State → Type 0
   pub merged_groups : (locals : List (LocalState R)) (l : LocalState R) (g : Groups) → MergesAll shape holds of locals l → AreOrderedGroups shape holds l g → AreMergedGroups holds of locals g
   merged_groups locals l g so ordered = record {
     schema_is = ap (λ (k : KeyGroups). k.schema) ordered.grouper_is ∙ so.is_of.schema_is;
+    once = subst (λ (k : KeyGroups). IsPermutation (range_with_len 0 (length k.keys)) g.order) (sym ordered.grouper_is) whole;
+    inside = subst (λ (k : KeyGroups). All (λ i. i < length k.keys) g.order) (sym ordered.grouper_is) (All-from_Each (λ i. i < length l.grouper.keys) g.order small);
     keys_are = sorted_keys bytes_eq bytes_eq-Decides top (map first_column locals) l.grouper.keys (ordered_keys g) (subst (NoRepeat bytes_eq) (sym so.keys_are) (distinct_apart bytes_eq bytes_eq-Decides (keys_in locals))) members
         (subst (IsPermutation l.grouper.keys) (sym keys_same) (subst (λ (ks : List (List ℕ)). IsPermutation ks (keys_at l.grouper.keys g.order)) every (IsPermutation-map (key_at l.grouper.keys) (range_with_len 0 (length l.grouper.keys)) g.order whole)))
         (subst (Rises (merged_first locals)) (sym keys_same) (rises_map (λ i. i < length l.grouper.keys) (merged_first locals) (key_at l.grouper.keys) (λ i. get_or l.first_rows i 0) g.order first_at small ordered.order_is.rises));

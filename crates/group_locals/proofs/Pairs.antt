@@ -2,7 +2,7 @@
 use Rattle.std.proofs.Common.{◌≡◌, ℕ, zero, suc, ◌+◌, ◌<◌, List, [], ◌∷◌, ◌++◌, map, length, get_or, refl, sym, ap, ap₂, ◌∙◌, subst, append_assoc, arith}
 use Rattle.std.proofs.lemmas.List.{get_or-map, length-append, length-map}
 use Rattle.list_laws.specs.Each.{Each}
-use Rattle.list_laws.specs.Places.{PairsFrom, ChangedAt, At}
+use Rattle.list_laws.specs.Places.{PairsFrom, At}
 
 module _ {X Y : Type 0} where
   -- two facts of the same items

@@ -1,5 +1,5 @@
 -- Where the first rows of a local state come from: those that it had, and the numbers of the rows that came.
-use Rattle.std.proofs.Common.{◌≡◌, ◌⊎◌, ℕ, zero, suc, ◌+◌, ◌<◌, ◌≤◌, ◌^◌, min, Bool, true, false, ◌||◌, List, [], ◌∷◌, ◌++◌, map, length, get_or, zip, refl, sym, ap, ap₂, ◌∙◌, subst, inl, inr, arith, bytes_eq}
+use Rattle.std.proofs.Common.{◌≡◌, ◌⊎◌, ℕ, suc, ◌+◌, ◌<◌, ◌≤◌, ◌^◌, min, true, false, List, [], ◌∷◌, ◌++◌, map, length, get_or, zip, refl, sym, ap, ap₂, ◌∙◌, subst, inl, inr, arith, bytes_eq}
 use Rattle.std.specs.List.{list_any, position_or_len}
 use Rattle.std.proofs.lemmas.Bool.{cases_Bool, cases_lt, false≢true}
 use Rattle.std.proofs.lemmas.Slice.Eq.{bytes_eq-Decides}
@@ -9,7 +9,7 @@ use Rattle.list_laws.specs.Places.{IsIn}
 use Rattle.list_laws.proofs.Keys.{any_from}
 use Rattle.join_laws.specs.Locals.{Entry, at_key, entries_from, of_key}
 use Rattle.group_locals.specs.Rows.{KeyedRow, entry_key, top, first_number}
-use Rattle.group_locals.specs.Locals.{AreApart, AreFresh}
+use Rattle.group_locals.specs.Locals.{FirstsDiffer, AreFresh}
 use Rattle.group_locals.proofs.Counts.{any_head, any_tail}
 use Rattle.group_locals.proofs.Members.{Within, each_in, in_each, within_left, within_right}
 
@@ -21,13 +21,13 @@ Noted = List ℕ × ℕ
 abbrev pub noted : Entry KeyedRow → Noted
 noted e = (entry_key e, e.number)
 
-pub apart_at : (ps : List Noted) (p q : Noted) → AreApart ps → IsIn p ps → IsIn q ps → p.1 ≡ q.1 → p.0 ≡ q.0
+pub apart_at : (ps : List Noted) (p q : Noted) → FirstsDiffer ps → IsIn p ps → IsIn q ps → p.1 ≡ q.1 → p.0 ≡ q.0
 apart_at ps p q h ip iq = each_in (λ (q : Noted). p.1 ≡ q.1 → p.0 ≡ q.0) ps q (each_in (λ (p : Noted). Each (λ q. p.1 ≡ q.1 → p.0 ≡ q.0) ps) ps p h ip) iq
 
-pub apart_from : (ps : List Noted) → ((p q : Noted) → IsIn p ps → IsIn q ps → p.1 ≡ q.1 → p.0 ≡ q.0) → AreApart ps
+pub apart_from : (ps : List Noted) → ((p q : Noted) → IsIn p ps → IsIn q ps → p.1 ≡ q.1 → p.0 ≡ q.0) → FirstsDiffer ps
 apart_from ps f = in_each (λ (p : Noted). Each (λ q. p.1 ≡ q.1 → p.0 ≡ q.0) ps) ps (λ p ip. in_each (λ (q : Noted). p.1 ≡ q.1 → p.0 ≡ q.0) ps (λ q iq. f p q ip iq))
 
-pub apart_within : (ps qs : List Noted) → Within ps qs → AreApart qs → AreApart ps
+pub apart_within : (ps qs : List Noted) → Within ps qs → FirstsDiffer qs → FirstsDiffer ps
 apart_within ps qs w h = apart_from ps (λ p q i j e. apart_at qs p q h (w p i) (w q j) e)
 
 -- the numbers of a morsel's rows lie in its range, and differ
@@ -62,7 +62,7 @@ in_either (z ∷ zs) ys x i = elim i [
 ]
 
 -- first rows that differ still do beside fresh numbers
-pub sources_apart : (ps : List Noted) (m n : ℕ) (rows : List KeyedRow) → AreApart ps → AreFresh n (length rows) ps → AreApart (ps ++ map noted (entries_from m n rows))
+pub sources_apart : (ps : List Noted) (m n : ℕ) (rows : List KeyedRow) → FirstsDiffer ps → AreFresh n (length rows) ps → FirstsDiffer (ps ++ map noted (entries_from m n rows))
 sources_apart ps m n rows h fresh = apart_from (ps ++ es) (λ p q i j e. elim (in_either ps es p i) [
   | inl a ↦ elim (in_either ps es q j) [
     | inl b ↦ apart_at ps p q h a b e
@@ -96,8 +96,8 @@ at_key_in (x ∷ xs) [] k l h = absurd (omega arith)
 at_key_in (x ∷ xs) (f ∷ fs) k l h = elim (cases_Bool (bytes_eq x k)) [
   | inl same ↦ inl (rw same (ap (λ (z : List ℕ). (z, f)) (sym ((bytes_eq-Decides x k).0 same))))
   | inr apart ↦
-    let e : at_key bytes_eq (x ∷ xs) (f ∷ fs) k top ≡ at_key bytes_eq xs fs k top = ap (λ i. get_or (f ∷ fs) i top) (index_cons x xs k apart) in
-    inr (subst (λ (v : ℕ). IsIn (k, v) (zip xs fs)) (sym e) (at_key_in xs fs k (omega arith) (omega arith)))
+      let e : at_key bytes_eq (x ∷ xs) (f ∷ fs) k top ≡ at_key bytes_eq xs fs k top = ap (λ i. get_or (f ∷ fs) i top) (index_cons x xs k apart) in
+      inr (subst (λ (v : ℕ). IsIn (k, v) (zip xs fs)) (sym e) (at_key_in xs fs k (omega arith) (omega arith)))
 ]
 
 pub at_key_below : (keys : List (List ℕ)) (firsts : List ℕ) (k : List ℕ) → length firsts ≡ length keys → Each (λ f. f < top) firsts → list_any (λ s. bytes_eq s k) keys ≡ true → at_key bytes_eq keys firsts k top < top
@@ -106,9 +106,9 @@ at_key_below (x ∷ xs) [] k l h i = absurd (omega arith)
 at_key_below (x ∷ xs) (f ∷ fs) k l h i = elim (cases_Bool (bytes_eq x k)) [
   | inl same ↦ rw same h.0
   | inr apart ↦
-    let e : at_key bytes_eq (x ∷ xs) (f ∷ fs) k top ≡ at_key bytes_eq xs fs k top = ap (λ i. get_or (f ∷ fs) i top) (index_cons x xs k apart) in
-    let r = at_key_below xs fs k (omega arith) h.1 (rw apart at i) in
-    omega arith
+      let e : at_key bytes_eq (x ∷ xs) (f ∷ fs) k top ≡ at_key bytes_eq xs fs k top = ap (λ i. get_or (f ∷ fs) i top) (index_cons x xs k apart) in
+      let r = at_key_below xs fs k (omega arith) h.1 (rw apart at i) in
+      omega arith
 ]
 
 -- a least number below the top is that of an entry
@@ -116,14 +116,14 @@ pub first_in : (es : List (Entry KeyedRow)) (k : List ℕ) → first_number (of_
 first_in [] k h = absurd (omega arith)
 first_in (e ∷ es) k h = elim (cases_Bool (bytes_eq e.row.key k)) [
   | inl same ↦
-    let f : first_number (of_key bytes_eq entry_key (e ∷ es) k) ≡ min e.number (first_number (of_key bytes_eq entry_key es k)) = rw same refl in
-    elim (cases_lt (first_number (of_key bytes_eq entry_key es k)) e.number) [
-      | inl low ↦ inr (subst (λ (v : ℕ). IsIn (k, v) (map noted es)) (sym (f ∙ (omega arith))) (first_in es k (omega arith)))
-      | inr high ↦ inl (ap₂ (λ (z : List ℕ) (v : ℕ). (z, v)) (sym ((bytes_eq-Decides e.row.key k).0 same)) (f ∙ (omega arith)))
-    ]
+      let f : first_number (of_key bytes_eq entry_key (e ∷ es) k) ≡ min e.number (first_number (of_key bytes_eq entry_key es k)) = rw same refl in
+      elim (cases_lt (first_number (of_key bytes_eq entry_key es k)) e.number) [
+        | inl low ↦ inr (subst (λ (v : ℕ). IsIn (k, v) (map noted es)) (sym (f ∙ (omega arith))) (first_in es k (omega arith)))
+        | inr high ↦ inl (ap₂ (λ (z : List ℕ) (v : ℕ). (z, v)) (sym ((bytes_eq-Decides e.row.key k).0 same)) (f ∙ (omega arith)))
+      ]
   | inr apart ↦
-    let f : first_number (of_key bytes_eq entry_key (e ∷ es) k) ≡ first_number (of_key bytes_eq entry_key es k) = rw apart refl in
-    inr (subst (λ (v : ℕ). IsIn (k, v) (map noted es)) (sym f) (first_in es k (omega arith)))
+      let f : first_number (of_key bytes_eq entry_key (e ∷ es) k) ≡ first_number (of_key bytes_eq entry_key es k) = rw apart refl in
+      inr (subst (λ (v : ℕ). IsIn (k, v) (map noted es)) (sym f) (first_in es k (omega arith)))
 ]
 
 first_below : (es : List (Entry KeyedRow)) (k : List ℕ) → Each (λ e. e.number < top) es → list_any (λ s. bytes_eq s k) (map entry_key es) ≡ true → first_number (of_key bytes_eq entry_key es k) < top
@@ -141,11 +141,11 @@ module _ (keys : List (List ℕ)) (firsts : List ℕ) (long : length firsts ≡ 
   new_first_in : (k : List ℕ) → new_first keys firsts es k < top → IsIn (k, new_first keys firsts es k) (zip keys firsts ++ map noted es)
   new_first_in k h = elim (cases_lt (first_number (of_key bytes_eq entry_key es k)) (at_key bytes_eq keys firsts k top)) [
     | inl low ↦
-      let e : new_first keys firsts es k ≡ first_number (of_key bytes_eq entry_key es k) = omega arith in
-      subst (λ (v : ℕ). IsIn (k, v) (zip keys firsts ++ map noted es)) (sym e) (within_right (zip keys firsts) (map noted es) (k, first_number (of_key bytes_eq entry_key es k)) (first_in es k (omega arith)))
+        let e : new_first keys firsts es k ≡ first_number (of_key bytes_eq entry_key es k) = omega arith in
+        subst (λ (v : ℕ). IsIn (k, v) (zip keys firsts ++ map noted es)) (sym e) (within_right (zip keys firsts) (map noted es) (k, first_number (of_key bytes_eq entry_key es k)) (first_in es k (omega arith)))
     | inr high ↦
-      let e : new_first keys firsts es k ≡ at_key bytes_eq keys firsts k top = omega arith in
-      subst (λ (v : ℕ). IsIn (k, v) (zip keys firsts ++ map noted es)) (sym e) (within_left (zip keys firsts) (map noted es) (k, at_key bytes_eq keys firsts k top) (at_key_in keys firsts k long (omega arith)))
+        let e : new_first keys firsts es k ≡ at_key bytes_eq keys firsts k top = omega arith in
+        subst (λ (v : ℕ). IsIn (k, v) (zip keys firsts ++ map noted es)) (sym e) (within_left (zip keys firsts) (map noted es) (k, at_key bytes_eq keys firsts k top) (at_key_in keys firsts k long (omega arith)))
   ]
 
   module _ (below : Each (λ f. f < top) firsts) (small : Each (λ e. e.number < top) es) where
@@ -154,8 +154,8 @@ module _ (keys : List (List ℕ)) (firsts : List ℕ) (long : length firsts ≡ 
     new_first_below k i = elim (cases_Bool (list_any (λ s. bytes_eq s k) keys)) [
       | inl there ↦ let a = at_key_below keys firsts k long below there in omega arith
       | inr fresh ↦
-        let both = sym (any_from bytes_eq bytes_eq-Decides keys (map entry_key es) k) ∙ i in
-        let b = first_below es k small (rw fresh at both) in omega arith
+          let both = sym (any_from bytes_eq bytes_eq-Decides keys (map entry_key es) k) ∙ i in
+          let b = first_below es k small (rw fresh at both) in omega arith
     ]
 
     pub new_source : (k : List ℕ) → list_any (λ s. bytes_eq s k) (with_keys keys (map entry_key es)) ≡ true → IsIn (k, new_first keys firsts es k) (zip keys firsts ++ map noted es)

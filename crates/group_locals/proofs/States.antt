@@ -1,15 +1,14 @@
 -- The states of a reduction, as values and the states of other groups enter its groups.
-use Rattle.std.proofs.Common.{◌≡◌, ◌≢◌, ℕ, zero, suc, ◌+◌, ◌<◌, ◌≤◌, eqb, false, List, [], ◌∷◌, ◌++◌, map, fold, length, refl, sym, ap, ap₂, ◌∙◌, subst, arith, bytes_eq}
+use Rattle.std.proofs.Common.{◌≡◌, ◌≢◌, ℕ, ◌+◌, ◌≤◌, eqb, false, List, [], ◌∷◌, ◌++◌, map, fold, length, refl, sym, ap, ◌∙◌, bytes_eq}
 use Rattle.std.specs.List.{All}
 use Rattle.std.proofs.lemmas.Bool.{eqb-false}
 use Rattle.std.proofs.lemmas.List.{map-append}
 use mathlib.Core.List.{map-map}
-use Rattle.col_core.specs.declared.leaf.Leaf.{Leaf}
 use Rattle.col_core.specs.Values.{value_at}
 use Rattle.reduce_model.specs.Folds.{fold_of}
 use Rattle.reduce_states.specs.States.{Entry as Contribution, State, IsState, IsInOrder, one, after, out, state_of}
 use Rattle.reduce_states.specs.Reductions.{Shape}
-use Rattle.reduce_states.specs.Moves.{entered, cut_or_filled, ones}
+use Rattle.reduce_states.specs.Moves.{ones}
 use Rattle.reduce_states.proofs.Merged.{after-is, state_of-append, state_of-comm, IsState-start}
 use Rattle.reduce_states.proofs.Folded.{out-state_of}
 use Rattle.list_laws.specs.Each.{Each}
@@ -19,7 +18,7 @@ use Rattle.list_laws.proofs.Each.{All-from_Each, Each-map, Each-weaker}
 use Rattle.join_laws.specs.Locals.{Entry, entries_from}
 use Rattle.join_laws.specs.Steps.{TookKeys}
 use Rattle.join_laws.proofs.Groups.{AreApart}
-use Rattle.group_locals.specs.Rows.{KeyedRow, entry_key, contribution, values_for, start_of, merge_of, column_state}
+use Rattle.group_locals.specs.Rows.{KeyedRow, entry_key, contribution, values_for, merge_of, column_state}
 use Rattle.group_locals.specs.Locals.{taken_values}
 use Rattle.group_locals.specs.Columns.{entered_states}
 use Rattle.group_locals.proofs.Entered.{column_takes}

@@ -1,6 +1,6 @@
 -- Local states that stand for what they have taken, and the groups of all rows.
-use Rattle.std.specs.Prelude.{◌≡◌, ℕ, List, [], map, filter, flat_map, bytes_eq}
-use Rattle.col_core.specs.declared.leaf.Leaf.{Leaf}
+use Rattle.std.specs.Prelude.{◌≡◌, ◌<◌, ℕ, List, [], map, filter, flat_map, length, bytes_eq}
+use Rattle.std.specs.List.{All}
 use Rattle.col_core.specs.Tables.{Column}
 use Rattle.reduce_model.specs.Folds.{fold_of, reduced_type}
 use Rattle.reduce_states.specs.States.{State}
@@ -46,5 +46,6 @@ pub record GroupColumn (ms : List (List KeyedRow)) (r : ℕ) (s : Shape) (c : Co
 -- the groups of all rows of the morsels, by first appearance
 pub record AreGroupsOf (of : Grouping) (ms : List (List KeyedRow)) (g : Groups) : Type 0 where
   pub schema_is : g.grouper.schema ≡ of.schema
+  pub inside : All (λ i. i < length g.grouper.keys) g.order
   pub keys_are : ordered_keys g ≡ all_keys ms
   pub columns_are : PairsFrom (GroupColumn ms) 0 of.shapes g.columns

@@ -48,13 +48,13 @@ abbrev pub kept : {R : Type 0} → LocalState R → List (List ℕ × ℕ)
 kept l = zip l.grouper.keys l.first_rows
 
 -- different keys have different first rows
-abbrev pub AreApart : List (List ℕ × ℕ) → Type 0
-AreApart ps = Each (λ p. Each (λ q. p.1 ≡ q.1 → p.0 ≡ q.0) ps) ps
+abbrev pub FirstsDiffer : List (List ℕ × ℕ) → Type 0
+FirstsDiffer ps = Each (λ p. Each (λ q. p.1 ≡ q.1 → p.0 ≡ q.0) ps) ps
 
 -- local states of a grouping
 pub record LocalsFit {R : Type 0} (shape : R → Shape) (of : Grouping) (locals : List (LocalState R)) : Type 0 where
   pub each : Each (LocalFits shape of) locals
-  pub apart : AreApart (flat_map kept locals)
+  pub apart : FirstsDiffer (flat_map kept locals)
 
 -- no first row is one of so many numbers from a first one on
 abbrev pub AreFresh : ℕ → ℕ → List (List ℕ × ℕ) → Type 0

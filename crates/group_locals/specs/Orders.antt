@@ -1,6 +1,6 @@
 -- The groups of all local states, by least first row.
-use Rattle.std.specs.Prelude.{◌≡◌, ℕ, List, [], map, length, bytes_eq, IsPermutation, slice_index_or}
-use Rattle.std.specs.List.{range_with_len}
+use Rattle.std.specs.Prelude.{◌≡◌, ◌<◌, ℕ, List, [], map, length, bytes_eq, IsPermutation, slice_index_or}
+use Rattle.std.specs.List.{range_with_len, All}
 use Rattle.col_core.specs.Tables.{Column, values_at}
 use Rattle.reduce_model.specs.Folds.{reduced_type}
 use Rattle.reduce_states.specs.States.{State, out}
@@ -47,5 +47,7 @@ pub record MergedColumn {R : Type 0} (holds : R → List State → Type 0) (loca
 -- the groups of all local states: each key once, by the least first row
 pub record AreMergedGroups {R : Type 0} (holds : R → List State → Type 0) (of : Grouping) (locals : List (LocalState R)) (g : Groups) : Type 0 where
   pub schema_is : g.grouper.schema ≡ of.schema
+  pub once : IsPermutation (range_with_len 0 (length g.grouper.keys)) g.order
+  pub inside : All (λ i. i < length g.grouper.keys) g.order
   pub keys_are : AreMergedKeys bytes_eq top (map first_column locals) (ordered_keys g)
   pub columns_are : PairsFrom (MergedColumn holds locals (ordered_keys g)) 0 of.shapes g.columns

@@ -15,8 +15,8 @@ pub record KeyedRow : Type 0 where
   pub values : Row
 
 -- the rows of keys and of columns, one column a reduction
-abbrev pub rows_of : List (List ℕ) → List (List Leaf) → List KeyedRow
-rows_of keys columns = map (λ i. record { key = slice_index_or keys i []; values = row_at columns i }) (range_with_len 0 (length keys))
+abbrev pub keyed_rows : List (List ℕ) → List (List Leaf) → List KeyedRow
+keyed_rows keys columns = map (λ i. record { key = slice_index_or keys i []; values = row_at columns i }) (range_with_len 0 (length keys))
 
 -- the values of reduction r
 abbrev pub values_for : ℕ → List KeyedRow → List Leaf

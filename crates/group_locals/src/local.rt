@@ -27,7 +27,7 @@ pub struct LocalState<R> {
 
 impl<R: GroupedReduction> LocalState<R> {
     ghost use Rattle.join_laws.specs.Locals.{entries_from};
-    ghost use Rattle.group_locals.specs.Rows.{rows_of};
+    ghost use Rattle.group_locals.specs.Rows.{keyed_rows};
     ghost use Rattle.group_locals.specs.Locals.{Grouping, IsOf, LocalFits, RowsFit, LocalTakes};
     ghost use Rattle.group_locals.specs.Merging.{LocalMerges};
     ghost use Rattle.group_locals.specs.Columns.{AreEmptied};
@@ -70,7 +70,7 @@ impl<R: GroupedReduction> LocalState<R> {
         requires few { length (with_keys self.old.grouper.keys (bytes_of (keys_of keys)))
             < 2 ^ 32 }
         ensures ok { OnOk result (LocalTakes R.shape R.holds (entries_from morsel_no first_row
-            (rows_of (bytes_of (keys_of keys)) (map (λ v. v.now.values) values.now)))
+            (keyed_rows (bytes_of (keys_of keys)) (map (λ v. v.now.values) values.now)))
             self.old self.new) }
         ensures cost { steps.new ≤ steps.old + length (keys_of keys) }
     {
@@ -95,9 +95,20 @@ impl<R: GroupedReduction> LocalState<R> {
         ensures cost { steps.new ≤ steps.old + length other.now.grouper.keys }
     {
         let mut group_idxs = Vec::new(alloc);
-        self.grouper.combine(&other.grouper, &mut group_idxs, steps)?;
+        self.grouper
+            .combine(&other.grouper, &mut group_idxs, steps)?;
         let groups = self.grouper.num_groups();
-        merge_rows(&mut self.first_rows, groups, &group_idxs, other.first_rows.as_slice())?;
-        combine_columns(&mut self.reductions, groups, other.reductions.as_slice(), &group_idxs)
+        merge_rows(
+            &mut self.first_rows,
+            groups,
+            &group_idxs,
+            other.first_rows.as_slice(),
+        )?;
+        combine_columns(
+            &mut self.reductions,
+            groups,
+            other.reductions.as_slice(),
+            &group_idxs,
+        )
     }
 }

@@ -5,7 +5,7 @@ ghost use Rattle.key_groups.specs.Groups.{bytes_of};
 ghost use Rattle.list_laws.specs.Each.{Each};
 ghost use Rattle.list_laws.specs.Places.{ChangedAt};
 ghost use Rattle.join_laws.specs.Locals.{entries_from};
-ghost use Rattle.group_locals.specs.Rows.{rows_of};
+ghost use Rattle.group_locals.specs.Rows.{keyed_rows};
 ghost use Rattle.group_locals.specs.Locals.{Grouping, LocalsFit, RowsFit, LocalTakes, AreFresh, kept, grouping_of};
 ghost use Rattle.group_locals.specs.History.{LocalHolds};
 
@@ -57,7 +57,7 @@ pub fn group_morsel<R: GroupedReduction, L: Ledger>(
     requires rows { first_row + length (keys_of keys) < 2 ^ 32 }
     requires fresh { AreFresh first_row (length (keys_of keys)) (flat_map kept locals.old) }
     ensures changed { ChangedAt (λ l m. OnOk result (LocalTakes R.shape R.holds
-        (entries_from morsel_no first_row (rows_of (bytes_of (keys_of keys))
+        (entries_from morsel_no first_row (keyed_rows (bytes_of (keys_of keys))
         (map (λ v. v.now.values) values.now))) l m))
         (morsel_no % length locals.old) locals.old locals.new }
     ensures fit { OnOk result ((of : Grouping) → LocalsFit R.shape of locals.old

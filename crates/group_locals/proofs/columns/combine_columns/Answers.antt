@@ -1,4 +1,4 @@
-use Rattle.std.proofs.Common.{◌≡◌, ◌<◌, ℕ, length, get_or, ◌∙◌, subst, arith}
+use Rattle.std.proofs.Common.{length, ◌∙◌, subst, arith}
 use Rattle.list_laws.specs.Places.{At}
 use Rattle.list_laws.proofs.Places.{at_get, changed_all, changed_here, changed_next, length-changed}
 use Rattle.group_locals.specs.Locals.{sized}

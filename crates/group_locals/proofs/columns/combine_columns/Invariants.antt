@@ -1,4 +1,3 @@
-use Rattle.std.proofs.Common.{ℕ}
 use Rattle.list_laws.specs.Places.{ChangedFront, At}
 use Rattle.group_locals.specs.Columns.{CombinesColumn}
 use Rattle.group_locals.proofs.columns.combine_columns.Given as goal

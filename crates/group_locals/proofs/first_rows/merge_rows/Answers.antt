@@ -1,4 +1,4 @@
-use Rattle.std.proofs.Common.{◌≡◌, ◌<◌, ℕ, length, get_or, take, refl, arith}
+use Rattle.std.proofs.Common.{get_or, take, refl, arith}
 use Rattle.reduce_states.specs.Moves.{cut_or_filled}
 use Rattle.group_locals.specs.Rows.{top}
 use Rattle.group_locals.proofs.FirstRows.{length-noted, noted_more}

@@ -1,4 +1,4 @@
-use Rattle.std.proofs.Common.{◌≡◌, ◌+◌, ◌<◌, ◌≤◌, ℕ, List, length, take, take_all, ap, sym, ◌∙◌, subst, arith}
+use Rattle.std.proofs.Common.{◌+◌, length, take, take_all, ap, sym, ◌∙◌, subst, arith}
 use Rattle.std.proofs.lemmas.List.{length-map}
 use Rattle.group_locals.specs.Locals.{LocalFits}
 use Rattle.group_locals.specs.Merging.{MergesAll, merged_first}
@@ -10,9 +10,9 @@ use Rattle.group_locals.proofs.merge.merge_locals.Goals as goal
 pub loop-local-init : goal.loop-local-init
 loop-local-init g c = record {
   merges = λ of fits.
-    let first = c.index-locals-0.result in
-    let mine = subst (LocalFits g.R.Stated.shape of) (sym c.index-locals-0.is) (each_at_place (LocalFits g.R.Stated.shape of) c.args.locals.now 0 first c.requires.some fits.each) in
-    merges_none g.R.Stated.shape g.R.Stated.holds g.met.R.GroupedReduction.long of (length first.grouper.keys) c.in_ok-whole.whole first.reductions first.grouper mine.is_of.schema_is mine.is_of.state_is mine.is_of.shapes_are c.in_ok-whole.ensures.grouper c.in_ok-whole.ensures.first_rows c.in_ok-whole.ensures.reductions;
+      let first = c.index-locals-0.result in
+      let mine = subst (LocalFits g.R.Stated.shape of) (sym c.index-locals-0.is) (each_at_place (LocalFits g.R.Stated.shape of) c.args.locals.now 0 first c.requires.some fits.each) in
+      merges_none g.R.Stated.shape g.R.Stated.holds g.met.R.GroupedReduction.long of (length first.grouper.keys) c.in_ok-whole.whole first.reductions first.grouper mine.is_of.schema_is mine.is_of.state_is mine.is_of.shapes_are c.in_ok-whole.ensures.grouper c.in_ok-whole.ensures.first_rows c.in_ok-whole.ensures.reductions;
   cost = omega arith;
 }
 
@@ -44,8 +44,8 @@ pub loop-local-preserved : goal.loop-local-preserved
 loop-local-preserved g c = record {
   merges = λ of fits. merges_at g.R.Stated.shape g.R.Stated.holds g.met.R.GroupedReduction.long of c.args.locals.now c.loop-local.local-index c.local-item.result c.loop-local.whole c.absorb.new.self c.loop-local-test.true c.local-item.is fits.each (c.loop-local.invariant.merges of fits) c.in_ok-absorb.ensures.ok;
   cost =
-    let a = length-keys_next g.R.Stated.shape c.requires.fit.0 c.args.locals.now c.loop-local.local-index c.local-item.result c.loop-local-test.true c.local-item.is in
-    omega (arith, a, c.loop-local.invariant.cost, c.in_ok-absorb.ensures.cost);
+      let a = length-keys_next g.R.Stated.shape c.requires.fit.0 c.args.locals.now c.loop-local.local-index c.local-item.result c.loop-local-test.true c.local-item.is in
+      omega (arith, a, c.loop-local.invariant.cost, c.in_ok-absorb.ensures.cost);
 }
 
 pub returns-clause-ok : goal.returns-clause-ok

@@ -1,4 +1,4 @@
-use Rattle.std.proofs.Common.{◌≡◌, ◌+◌, ◌≤◌, length, take}
+use Rattle.std.proofs.Common.{◌+◌, ◌≤◌, length, take}
 use Rattle.group_locals.specs.Locals.{Grouping, LocalsFit}
 use Rattle.group_locals.specs.Merging.{MergesAll, keys_in}
 use Rattle.group_locals.proofs.merge.merge_locals.Given as goal

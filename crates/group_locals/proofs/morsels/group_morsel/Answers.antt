@@ -1,13 +1,13 @@
-use Rattle.std.proofs.Common.{◌≡◌, ◌+◌, ◌<◌, ◌^◌, ◌%◌, ℕ, List, [], map, flat_map, length, unwrap_or, sym, subst, mod-lt, arith}
+use Rattle.std.proofs.Common.{◌%◌, ℕ, [], map, flat_map, length, unwrap_or, sym, subst, mod-lt, arith}
 use Rattle.std.proofs.lemmas.List.{length-map}
 use Rattle.hash_keys.specs.Views.{keys_of}
 use Rattle.key_groups.specs.Groups.{bytes_of}
 use Rattle.list_laws.proofs.Places.{changed_at_set}
 use Rattle.join_laws.specs.Locals.{entries_from}
-use Rattle.group_locals.specs.Rows.{rows_of}
+use Rattle.group_locals.specs.Rows.{keyed_rows}
 use Rattle.group_locals.specs.Locals.{AreFresh, LocalTakes, kept}
 use Rattle.group_locals.proofs.Calls.{on_ok}
-use Rattle.group_locals.proofs.Given.{few_keys, fit_after}
+use Rattle.group_locals.proofs.MorselFits.{few_keys, fit_after}
 use Rattle.group_locals.proofs.morsels.group_morsel.Goals as goal
 
 pub take_rows-requires-clause-few : goal.take_rows-requires-clause-few
@@ -28,4 +28,4 @@ returns-clause-fit g c = on_ok c.take_rows.result _ _ c.take_rows.ensures.ok (λ
     let long = length-map (keys_of c.args.keys) (λ k. unwrap_or k []) in
     let fresh = subst (λ (n : ℕ). AreFresh c.args.first_row n (flat_map kept c.args.locals.now)) (sym long) c.requires.fresh in
     fit_after g.R.Stated.shape of c.args.locals.now c.args.first_row ks columns fits (omega (arith, c.requires.rows)) fresh g.R.Stated.holds c.args.morsel_no place _
-    (changed_at_set (LocalTakes g.R.Stated.shape g.R.Stated.holds (entries_from c.args.morsel_no c.args.first_row (rows_of ks columns))) place c.args.locals.now c.index-locals-place.result c.take_rows.new.self (mod-lt c.args.morsel_no c.requires.some) takes))
+    (changed_at_set (LocalTakes g.R.Stated.shape g.R.Stated.holds (entries_from c.args.morsel_no c.args.first_row (keyed_rows ks columns))) place c.args.locals.now c.index-locals-place.result c.take_rows.new.self (mod-lt c.args.morsel_no c.requires.some) takes))

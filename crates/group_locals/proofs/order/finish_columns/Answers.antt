@@ -1,4 +1,4 @@
-use Rattle.std.proofs.Common.{◌≡◌, ◌<◌, ℕ, length, get_or, sym, ◌∙◌, subst, arith}
+use Rattle.std.proofs.Common.{◌<◌, length, sym, ◌∙◌, subst, arith}
 use Rattle.std.specs.List.{All}
 use Rattle.list_laws.proofs.Places.{changed_here, changed_next, length-changed, pairs_next}
 use Rattle.group_locals.specs.Orders.{FinishedColumn}

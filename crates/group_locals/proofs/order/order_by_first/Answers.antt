@@ -1,4 +1,4 @@
-use Rattle.std.proofs.Common.{rules, ◌≡◌, ℕ, List, IsPermutation, get_or, subst}
+use Rattle.std.proofs.Common.{rules, ℕ, List, IsPermutation, get_or, subst}
 use Rattle.std.proofs.lemmas.List.Sorted.{IsNonDecreasingBy-from_sort_by_key}
 use Rattle.list_laws.proofs.Ascending.{rises_from_non_decreasing}
 use Rattle.group_locals.proofs.order.order_by_first.Goals as goal

@@ -1,4 +1,4 @@
-use Rattle.std.proofs.Common.{◌≡◌, ◌≤◌, ℕ, List, length, sym, ◌∙◌, arith}
+use Rattle.std.proofs.Common.{arith}
 use Rattle.group_locals.proofs.Calls.{on_ok}
 use Rattle.group_locals.proofs.Fits.{inside_of, more_came}
 use Rattle.group_locals.proofs.Merges.{local_merges_from}

@@ -1,4 +1,4 @@
-use Rattle.std.proofs.Common.{◌≡◌, ◌≤◌, ℕ, List, [], map, length, unwrap_or, sym, ◌∙◌, arith}
+use Rattle.std.proofs.Common.{[], length, unwrap_or, ◌∙◌, arith}
 use Rattle.std.proofs.lemmas.List.{length-map}
 use Rattle.hash_keys.specs.Views.{keys_of}
 use Rattle.key_groups.specs.Groups.{bytes_of}
