@@ -1,8 +1,9 @@
 -- Values of which bits hide some, one by one.
-use Rattle.std.proofs.Common.{◌≡◌, Option, Some, None, MatchOption, ℕ, zero, suc, ◌+◌, ◌<◌, Bool, true, false, cond, List, [], ◌∷◌, ◌++◌, length, map, take, get_or, refl, ap, ◌∙◌, arith, add-one}
+use Rattle.std.proofs.Common.{◌≡◌, Option, Some, None, MatchOption, Result, IfOk, ℕ, zero, suc, ◌+◌, ◌<◌, Bool, true, false, cond, List, [], ◌∷◌, ◌++◌, length, map, take, get_or, refl, sym, ap, subst, ◌∙◌, arith, add-one}
 use Rattle.std.specs.List.{AllZip, zip}
 use Rattle.std.specs.Option.{ForSome}
 use Rattle.std.proofs.lemmas.List.{length-replicate}
+use Rattle.std.proofs.lemmas.Result.{IfOk-weaker}
 use Rattle.col_core.specs.declared.leaf.Leaf.{Leaf}
 use Rattle.col_core.specs.declared.leaf.Leaf.TheVariants as leaves
 use Rattle.reduce_states.specs.States.{Entry, State}
@@ -47,3 +48,27 @@ pub mask_length : {A : Type 0} (mask : Option A) (bits_of : A → List Bool) (bi
     → ForSome mask (λ m. length (bits_of m) ≡ n) → length bits ≡ n
 mask_length None bits_of bits n m h = ap length m ∙ length-replicate n true
 mask_length (Some a) bits_of bits n m h = ap length m ∙ h a refl
+
+-- the bits that no mask stands for, and those of a mask
+no_mask : {A : Type 0} (m : Option A) (now : A → List Bool) (n : ℕ) → m ≡ None → MatchOption m (all_shown n ≡ all_shown n) (λ a. all_shown n ≡ now a)
+no_mask None now n h = refl
+no_mask (Some a) now n h = absurd (cc)
+
+one_mask : {A : Type 0} (m : Option A) (now : A → List Bool) (n : ℕ) (x : A) → m ≡ Some x → MatchOption m (now x ≡ all_shown n) (λ a. now x ≡ now a)
+one_mask None now n x h = absurd (cc)
+one_mask (Some a) now n x h = let same : a ≡ x = cc in sym (ap now same)
+
+-- what a column must be that `finish` of a reducer gives
+module _ {S E V A : Type 0} (values_of : S → List Leaf) (r : Result S E) (stands : V → State → Type 0) (tells : Bool) (given : V → Leaf) (vs : List V) (m : Option A) (now : A → List Bool)
+    (some : (v : V) (e : Entry) → stands v (Some e) → given v ≡ e.value) (none : (v : V) → tells ≡ true → stands v None → given v ≡ leaves.Null)
+    (values : (bits : List Bool) → MatchOption m (bits ≡ all_shown (length vs)) (λ a. bits ≡ now a) → IfOk r (λ s. values_of s ≡ shown_values (map given vs) bits)) where
+
+  of_bits : (bits : List Bool) → length bits ≡ length vs → MatchOption m (bits ≡ all_shown (length vs)) (λ a. bits ≡ now a) → IfOk r (λ s. AllZip (IsFinished stands tells) (zip vs bits) (values_of s))
+  of_bits bits long is = IfOk-weaker r (λ s. values_of s ≡ shown_values (map given vs) bits) (λ s. AllZip (IsFinished stands tells) (zip vs bits) (values_of s))
+      (λ s e. subst (AllZip (IsFinished stands tells) (zip vs bits)) (sym e) (finished stands tells given vs bits some none long)) (values bits is)
+
+  pub finished_plain : m ≡ None → IfOk r (λ s. AllZip (IsFinished stands tells) (zip vs (all_shown (length vs))) (values_of s))
+  finished_plain h = of_bits (all_shown (length vs)) (length-replicate (length vs) true) (no_mask m now (length vs) h)
+
+  pub finished_masked : ForSome m (λ a. length (now a) ≡ length vs) → (x : A) → m ≡ Some x → IfOk r (λ s. AllZip (IsFinished stands tells) (zip vs (now x)) (values_of s))
+  finished_masked long x h = of_bits (now x) (long x h) (one_mask m now (length vs) x h)
