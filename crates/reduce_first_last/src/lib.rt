@@ -5,14 +5,12 @@
 #![tactic(auto)]
 
 mod bytes;
-mod decimals;
 mod kept;
 mod numbers;
 mod policy;
 mod truths;
 
 pub use bytes::BinaryFirstLastReducer;
-pub use decimals::GenericFirstLastGroupedReduction;
 pub use kept::Numbered;
 pub use numbers::NumFirstLastReducer;
 pub use policy::{First, Last, Policy};

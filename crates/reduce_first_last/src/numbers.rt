@@ -1,5 +1,5 @@
 //! The reducer of a first or last number.
-use crate::kept::Numbered;
+use crate::kept::{Numbered, replaces};
 use crate::policy::Policy;
 use col_core::{DataType, LeafRef, MutableBitmap, Series};
 use group_reduce::Reducer;
@@ -90,7 +90,7 @@ impl<P: Policy, T: ColumnNumber> Reducer for NumFirstLastReducer<P, T> {
         a: &mut Numbered<Option<T>>,
         b: &Numbered<Option<T>>,
     ) -> Result<(), AllocError> {
-        if P::should_replace(b.number, a.number) {
+        if replaces::<P>(b.number, a.number) {
             a.value = b.value;
             a.number = b.number;
         }
@@ -103,7 +103,7 @@ impl<P: Policy, T: ColumnNumber> Reducer for NumFirstLastReducer<P, T> {
         b: LeafRef<'_>,
         seq_id: u64,
     ) -> Result<(), AllocError> {
-        if P::should_replace(seq_id, a.number) {
+        if replaces::<P>(seq_id, a.number) {
             a.value = number_of(b);
             a.number = seq_id;
         }
