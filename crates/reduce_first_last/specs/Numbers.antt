@@ -1,6 +1,8 @@
 -- Values that are kept with a number: one above the sequence number by which they entered, and 0 where nothing entered.
 use Rattle.std.specs.Prelude.{ℕ, zero, suc, ◌+◌, ◌-◌, ◌%◌, ◌^◌, Bool, true, false, nat_lt, nat_le, Some, None}
 use Rattle.col_core.specs.declared.leaf.Leaf.{Leaf}
+use Rattle.col_core.specs.declared.data_type.DataType.{DataType}
+use Rattle.col_core.specs.declared.data_type.DataType.TheVariants as types
 use Rattle.reduce_model.specs.declared.kind.ReductionKind.{ReductionKind}
 use Rattle.reduce_model.specs.declared.kind.ReductionKind.TheVariants as kinds
 use Rattle.reduce_states.specs.States.{State}
@@ -29,3 +31,12 @@ kept_place _ len = 0
 abbrev pub numbered_state : ℕ → Leaf → State
 numbered_state zero v = None
 numbered_state (suc n) v = Some (record { number = n; value = v })
+
+-- the types of decimals
+abbrev pub is_decimal : DataType → Bool
+is_decimal (types.Decimal p s) = true
+is_decimal _ = false
+
+-- the representation of decimals, which no way in which values are kept has for its number
+abbrev pub decimal_form : ℕ
+decimal_form = 11

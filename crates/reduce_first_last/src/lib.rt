@@ -5,12 +5,14 @@
 #![tactic(auto)]
 
 mod bytes;
+mod decimals;
 mod kept;
 mod numbers;
 mod policy;
 mod truths;
 
 pub use bytes::BinaryFirstLastReducer;
+pub use decimals::GenericFirstLastGroupedReduction;
 pub use kept::Numbered;
 pub use numbers::NumFirstLastReducer;
 pub use policy::{First, Last, Policy};
