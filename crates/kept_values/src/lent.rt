@@ -1,11 +1,15 @@
 //! Values of columns that are kept, and lent again.
-ghost use Rattle.std.specs.Prelude.{◌≡◌, IfOk};
+ghost use Rattle.std.specs.Prelude.{◌≡◌, map, IfOk};
+ghost use Rattle.col_core.specs.declared.data_type.PhysicalType.TheVariants as kept;
+ghost use Rattle.col_core.specs.declared.leaf.Leaf.TheVariants as leaves;
 ghost use Rattle.col_core.specs.Lent.{lent_leaf};
+ghost use Rattle.col_core.specs.Tables.{chunk_leaves, chunk_physical};
+ghost use Rattle.col_core.specs.Values.{item_leaf};
 ghost use Rattle.col_core.specs.Physical.{IsTruth, IsNumber, HasBytes};
 ghost use Rattle.kept_values.specs.Kept.{number_or_null, truth_or_null, bytes_or_null};
 
 use crate::number::ColumnNumber;
-use col_core::{Blob, LeafRef};
+use col_core::{BinaryArray, Blob, Chunk, LeafRef};
 use std::alloc::{AllocError, Global};
 
 /// The number that is lent, or `None` for a null.
@@ -49,6 +53,17 @@ pub fn lend_truth(truth: Option<bool>) -> LeafRef<'static>
     match truth {
         Some(truth) => LeafRef::Bool(truth),
         None => LeafRef::Null,
+    }
+}
+
+/// The bytes of a chunk that keeps bytes.
+pub fn byte_array(chunk: &Chunk) -> &BinaryArray
+    requires { chunk_physical chunk.now ≡ kept.Bytes }
+    ensures { chunk_leaves chunk.now ≡ map (item_leaf (λ b. leaves.Bytes b)) result.now }
+{
+    match chunk {
+        Chunk::Bytes(items) => items,
+        _ => unreachable!(),
     }
 }
 

@@ -7,5 +7,5 @@ mod lent;
 mod number;
 
 pub use finished::{GivesValues, finished_column};
-pub use lent::{bytes_of, lend_bytes, lend_number, lend_truth, number_of, truth_of};
+pub use lent::{byte_array, bytes_of, lend_bytes, lend_number, lend_truth, number_of, truth_of};
 pub use number::ColumnNumber;

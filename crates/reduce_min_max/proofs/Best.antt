@@ -107,6 +107,12 @@ after_merged k t n x vs s =
     after-is k t x (numbered n vs) (IsState-plain k t x none)
     ∙ ap (merge k t x) (ap (λ (y : State). after k t y (numbered n vs)) none ∙ after_best k t n leaves.Null vs s ∙ ap present (sym (fold_of_best k t vs s)))
 
+out-present : (v : Leaf) → out (present v) ≡ v
+out-present leaves.Null = refl
+out-present (leaves.Bool b) = refl
+out-present (leaves.Whole z) = refl
+out-present (leaves.Bytes b) = refl
+
 -- the best of two lists of values
 pub fold_of-append : (k : ReductionKind) (t : DataType) (vs ws : List Leaf) → skips_nulls k ≡ true
     → fold_of k t (vs ++ ws) ≡ better (order_of k) (fold_of k t vs) (fold_of k t ws)
@@ -118,12 +124,6 @@ fold_of-append k t vs ws s =
         ∙ ap (λ (x : State). merge k t x (present (fold_of k t ws))) (after_merged k t 0 None vs s)
         ∙ merged_present k t (fold_of k t vs) (fold_of k t ws) s in
     sym (out-present (fold_of k t (vs ++ ws))) ∙ ap out both ∙ out-present (better (order_of k) (fold_of k t vs) (fold_of k t ws))
-  where
-    out-present : (v : Leaf) → out (present v) ≡ v
-    out-present leaves.Null = refl
-    out-present (leaves.Bool b) = refl
-    out-present (leaves.Whole z) = refl
-    out-present (leaves.Bytes b) = refl
 
 -- a null changes nothing
 pub merge-null : (k : ReductionKind) (t : DataType) (x : State) (v : Leaf) → v ≡ leaves.Null → merge k t x (present v) ≡ x
@@ -143,3 +143,14 @@ best_given start z e (inr h) = absurd (some_not_none h.0)
   where
     some_not_none : Some e ≡ None → ⊥
     some_not_none h = cc
+
+-- what a kept value gives that stands for the state of a value or a null
+pub given_some : (v : Leaf) (e : Entry) → Some e ≡ present v → v ≡ e.value
+given_some v e h = sym (out-present v) ∙ sym (ap out h)
+
+pub given_none : (v : Leaf) → None ≡ present v → v ≡ leaves.Null
+given_none v h = sym (out-present v) ∙ sym (ap out h)
+
+-- a value enters a state
+pub entered : (k : ReductionKind) (t : DataType) (x y : State) (old w new : Leaf) → skips_nulls k ≡ true → x ≡ present old → y ≡ present w → new ≡ better (order_of k) old w → merge k t x y ≡ present new
+entered k t x y old w new s p q e = rw (p, q) (merged_present k t old w s ∙ ap present (sym e))

@@ -1,3 +1,4 @@
 pub mod Best
 pub mod Kernel
 pub mod Columns
+pub mod Scanned

@@ -3,8 +3,12 @@
 //! Nulls are skipped, and a group without a present value gives null.
 #![tactic(auto)]
 
+mod bytes;
 mod numbers;
 mod numeric;
+mod side;
 
+pub use bytes::{BinaryMaxReducer, BinaryMinReducer, BinaryReducer};
 pub use numbers::NumReducer;
 pub use numeric::{Max, Min, NumericReduction};
+pub use side::{Greatest, Least, Side};

@@ -1,7 +1,6 @@
-use Rattle.std.proofs.Common.{◌≡◌, inl, None, Some, refl, sym, ap, subst, ◌∙◌}
+use Rattle.std.proofs.Common.{◌≡◌, inl, Some, sym, ap, subst, ◌∙◌}
 use Rattle.reduce_model.specs.Folds.{fold_of}
-use Rattle.reduce_states.specs.States.{State, present, after, merge}
-use Rattle.reduce_states.specs.Moves.{numbered}
+use Rattle.reduce_states.specs.States.{present}
 use Rattle.group_reduce.specs.Reducing.{TakesAll}
 use Rattle.kept_values.specs.Kept.{number_or_null}
 use Rattle.reduce_min_max.specs.Best.{IsBestSoFar}

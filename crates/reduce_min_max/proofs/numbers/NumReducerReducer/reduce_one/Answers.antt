@@ -1,6 +1,6 @@
-use Rattle.std.proofs.Common.{◌≡◌, inl, None, Some, refl, sym, ap, subst, ◌∙◌}
+use Rattle.std.proofs.Common.{◌≡◌, inl, Some, sym, ap, subst, ◌∙◌}
 use Rattle.col_core.specs.Lent.{lent_leaf}
-use Rattle.reduce_states.specs.States.{State, present, one, merge}
+use Rattle.reduce_states.specs.States.{present, one}
 use Rattle.group_reduce.specs.Reducing.{TakesOne}
 use Rattle.kept_values.specs.Kept.{number_or_null}
 use Rattle.kept_values.proofs.Types.{fits_kept_as}
