@@ -1,0 +1,3 @@
+pub mod Best
+pub mod Kernel
+pub mod Columns
