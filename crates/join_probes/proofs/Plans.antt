@@ -1,5 +1,6 @@
 -- The numbers of a good plan, and sides that are not too large.
-use Rattle.std.proofs.Common.{◌≡◌, ◌<◌, ◌≤◌, ◌^◌, ◌%◌, true, false, List, [], ◌∷◌, length, ap, append-nil, arith}
+use Rattle.std.proofs.Common.{◌≡◌, ℕ, ◌<◌, ◌≤◌, ◌^◌, ◌%◌, true, false, List, [], ◌∷◌, length, get_or, ap, append-nil, arith}
+use Rattle.std.proofs.lemmas.List.Folds.{length-flat_map-take}
 use Rattle.col_core.specs.Tables.{Table}
 use Rattle.join_query.specs.declared.query.Plan.{Plan}
 use Rattle.join_model.specs.Joined.{rows_of}
@@ -32,5 +33,9 @@ few_within t frames l h =
     let few = few_rows frames h in
     let long = ap length (append-nil t.rows) in
     grind arith
+
+-- a whole frame as a morsel
+pub few_frame : (frames : List Table) (i : ℕ) (t : Table) → t ≡ get_or frames i t → i < length frames → is_too_large frames ≡ false → is_too_large (t ∷ []) ≡ false
+few_frame frames i t e l few = few_within t frames (omega (arith, length-flat_map-take (λ (x : Table). x.rows) frames i t l, ap (λ (x : Table). length x.rows) e)) few
 
 pub ruleset good_plan = (some_partitions, few_partitions, some_limit, small_limit, odd_factor)

@@ -1,10 +1,9 @@
 //! The frames of the tests, and queries over them.
-ghost use Rattle.std.specs.Prelude.{};
 ghost use Rattle.col_core.specs.declared.data_type.DataType.TheVariants.{Int64};
 ghost use Rattle.col_core.specs.Values.{Fits};
 
 use col_core::{ColumnBuilder, DataType, Field, Frame, Leaf, List, Name, Schema, Series};
-use join_query::{ColumnRef, DEFAULT_PLAN, Plan, Query, Reduction, ReductionKind, Side};
+use join_query::{ColumnRef, DEFAULT_PLAN, Query, Reduction, ReductionKind, Side};
 use std::alloc::Global;
 use std::test::Fail;
 
@@ -63,7 +62,12 @@ fn reference(alloc: Global, name: &str) -> Result<ColumnRef, Fail> {
 }
 
 /// A query over such frames that joins them on some columns.
-pub fn query(alloc: Global, keys: &[&str], null_equal: bool, keep_probe: bool) -> Result<Query, Fail> {
+pub fn query(
+    alloc: Global,
+    keys: &[&str],
+    null_equal: bool,
+    keep_probe: bool,
+) -> Result<Query, Fail> {
     let mut group_keys = Vec::new(alloc);
     group_keys.push(reference(alloc, "x")?)?;
     let mut reductions = Vec::new(alloc);

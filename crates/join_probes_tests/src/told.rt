@@ -84,7 +84,14 @@ fn told_of<L: Ledger>(
 {
     let mut steps = Steps::<L>::new(blank);
     let mut built = build_tables(alloc, query, build, &mut steps)?;
-    match probe_morsel(alloc, query, &mut built, morsel, u64::from(most), &mut steps) {
+    match probe_morsel(
+        alloc,
+        query,
+        &mut built,
+        morsel,
+        u64::from(most),
+        &mut steps,
+    ) {
         Ok(pairs) => {
             let left = unmatched_rows(alloc, query, &built)?;
             text_of(alloc, pairs.as_slice(), left.as_slice())
@@ -95,6 +102,7 @@ fn told_of<L: Ledger>(
 }
 
 /// What the sides of the tests give.
+#[tactic(auto, using(join_probes::proofs::Checked::checked))]
 fn told(alloc: Global, query: &Query, most: u32) -> Result<String, Fail> {
     let build = build_side(alloc)?;
     let probe = probe_side(alloc)?;
@@ -110,11 +118,23 @@ type Case<'a> = (&'a [&'a str], bool, bool, u32, &'a str);
 
 const CASES: [Case; 6] = [
     (&["x"], false, false, 9, "0-0.0 0-1.0 / 0.1 0.2 1.1 "),
-    (&["x"], false, true, 9, "0-0.0 0-1.0 1-none 2-none / 0.1 0.2 1.1 "),
+    (
+        &["x"],
+        false,
+        true,
+        9,
+        "0-0.0 0-1.0 1-none 2-none / 0.1 0.2 1.1 ",
+    ),
     (&["x"], true, false, 9, "0-0.0 0-1.0 2-0.2 2-1.1 / 0.1 "),
     (&["x", "y"], true, false, 3, "0-0.0 2-0.2 2-1.1 / 0.1 1.0 "),
     (&["x", "y"], true, false, 2, "too large"),
-    (&["x", "y"], false, true, 3, "0-0.0 1-none 2-none / 0.1 0.2 1.0 1.1 "),
+    (
+        &["x", "y"],
+        false,
+        true,
+        3,
+        "0-0.0 1-none 2-none / 0.1 0.2 1.0 1.1 ",
+    ),
 ];
 
 /// Whether a case is told right under numbers of partitions and limits.
