@@ -107,7 +107,7 @@ after_merged k t n x vs s =
     after-is k t x (numbered n vs) (IsState-plain k t x none)
     ∙ ap (merge k t x) (ap (λ (y : State). after k t y (numbered n vs)) none ∙ after_best k t n leaves.Null vs s ∙ ap present (sym (fold_of_best k t vs s)))
 
-out-present : (v : Leaf) → out (present v) ≡ v
+pub out-present : (v : Leaf) → out (present v) ≡ v
 out-present leaves.Null = refl
 out-present (leaves.Bool b) = refl
 out-present (leaves.Whole z) = refl

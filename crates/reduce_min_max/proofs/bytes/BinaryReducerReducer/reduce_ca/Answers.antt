@@ -1,9 +1,8 @@
-use Rattle.std.proofs.Common.{None, ap, sym, ◌∙◌, option_copied}
+use Rattle.std.proofs.Common.{ap, sym, ◌∙◌, option_copied}
 use Rattle.std.proofs.lemmas.Result.{on_ok_weaker}
 use Rattle.col_core.specs.declared.leaf.Leaf.TheVariants as leaves
 use Rattle.reduce_model.specs.Folds.{fold_of}
-use Rattle.reduce_states.specs.States.{present, merge}
-use Rattle.reduce_states.proofs.Merged.{merge-none}
+use Rattle.reduce_states.specs.States.{present}
 use Rattle.group_reduce.specs.Reducing.{TakesAll}
 use Rattle.kept_values.specs.Kept.{bytes_or_null}
 use Rattle.reduce_min_max.proofs.Best.{entered, after_merged, merge-null}
