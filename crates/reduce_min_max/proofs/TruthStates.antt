@@ -31,7 +31,7 @@ pub state_set : (k : ReductionKind) (t : DataType) (truths new : List (Option Bo
     → truth_states new ≡ set (truth_states truths) g (merge k t (get_or (truth_states truths) g (start k t)) (truth_state truth))
 state_set k t truths new g truth kept s h e f =
     let merged : truth_state kept ≡ merge k t (get_or (truth_states truths) g (start k t)) (truth_state truth) =
-        ap present e ∙ sym (merged_present k t (truth_or_null (get_or truths g None)) (truth_or_null truth) s) ∙ ap (λ (x : State). merge k t x (truth_state truth)) (sym (state_at truths g (start k t) h)) in
+    ap present e ∙ sym (merged_present k t (truth_or_null (get_or truths g None)) (truth_or_null truth) s) ∙ ap (λ (x : State). merge k t x (truth_state truth)) (sym (state_at truths g (start k t) h)) in
     ap truth_states f ∙ map-set truth_state truths g kept ∙ ap (set (truth_states truths) g) merged
 
 -- one more state has entered

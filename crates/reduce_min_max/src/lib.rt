@@ -15,4 +15,3 @@ pub use numbers::NumReducer;
 pub use numeric::{Max, Min, NumericReduction};
 pub use side::{Greatest, Least, Side};
 pub use truth_groups::{BoolGroupedReduction, BoolMaxGroupedReduction, BoolMinGroupedReduction};
-pub use truths::Truths;

@@ -18,8 +18,8 @@ returns-in-Some-clause-ok g c =
     let w = leaves.Bytes c.in-Some.bytes.now in
     let skips = g.met.S.Side.kind_law in
     on_ok_weaker c.enter.result (λ e t n x f h.
-        let best = sym (c.best_of_column.ensures.best t) ∙ ap (λ r. bytes_or_null (option_copied r)) c.in-Some.is in
-        after_merged k t n x vs skips ∙ entered k t x (present (fold_of k t vs)) old w new skips h (ap present best) e) c.enter.ensures.ok
+    let best = sym (c.best_of_column.ensures.best t) ∙ ap (λ r. bytes_or_null (option_copied r)) c.in-Some.is in
+    after_merged k t n x vs skips ∙ entered k t x (present (fold_of k t vs)) old w new skips h (ap present best) e) c.enter.ensures.ok
 
 pub returns-in-None-clause-ok : goal.returns-in-None-clause-ok
 unfolding TakesAll

@@ -13,7 +13,7 @@ loop-i-preserved c =
     let lt : q < length c.args.partition_sizes.now = c.requires.sizes.inside i 0 c.loop-i-test.true in
     let inside : i < length xs = omega (arith, c.requires.lengths) in
     let now : c.index_mut.result.now ≡ dealt q (take i is) (take i xs) =
-        at_place c.loop-i.parts.items q c.index_mut.result.now (λ part. part ≡ dealt q (take i is) (take i xs)) (c.loop-i.invariant.parts q lt) c.index_mut.ensures.value in
+    at_place c.loop-i.parts.items q c.index_mut.result.now (λ part. part ≡ dealt q (take i is) (take i xs)) (c.loop-i.invariant.parts q lt) c.index_mut.ensures.value in
     record {
       many = search rules;
       parts = each_set (length c.args.partition_sizes.now) c.loop-i.parts.items q c.push.new.self

@@ -21,8 +21,8 @@ returns-clause-ok c =
     let long = cut_length vs cut ms c.len.result c.self.invariant c.len.ensures c.in_ok-resize.ensures.ok in
     let values = c.in_ok-push.ensures.ok ∙ ap (λ (b : Bool). cut ++ b ∷ []) c.unwrap_or.ensures in
     on_ok_weaker c.push-2.result (λ e.
-        ap₂ optional_bits values (e ∙ ap (λ (b : Bool). ms ++ b ∷ []) c.is_some.ensures) ∙ bits_push cut ms truth long
-        ∙ ap (λ bs. bs ++ truth ∷ []) (same ∙ c.self.view_is)) c.push-2.ensures.ok
+    ap₂ optional_bits values (e ∙ ap (λ (b : Bool). ms ++ b ∷ []) c.is_some.ensures) ∙ bits_push cut ms truth long
+    ∙ ap (λ bs. bs ++ truth ∷ []) (same ∙ c.self.view_is)) c.push-2.ensures.ok
 
 pub returns-clause-err : goal.returns-clause-err
 returns-clause-err c =
