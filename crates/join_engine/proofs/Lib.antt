@@ -1,3 +1,5 @@
+pub mod Fronts
+pub mod Mapped
 pub mod Listed
 pub mod Grouped
 pub mod GroupRows

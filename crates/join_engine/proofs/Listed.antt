@@ -1,11 +1,10 @@
 -- The listed rows, as more rows are probed.
-use Rattle.std.proofs.Common.{◌≡◌, ℕ, ◌+◌, ◌-◌, ◌<◌, ◌≤◌, ◌^◌, ◌||◌, ◌&&◌, Bool, true, false, not, cond, List, [], ◌∷◌, ◌++◌, map, filter, flat_map, length, get_or, take, None, Some, refl, sym, ap, ◌∙◌, subst, arith, inl, inr, ◌⊎◌}
+use Rattle.std.proofs.Common.{◌≡◌, ◌+◌, ◌-◌, ◌<◌, ◌≤◌, ◌^◌, ◌&&◌, Bool, true, false, cond, List, [], ◌∷◌, ◌++◌, map, filter, length, None, refl, sym, ap, ◌∙◌, subst, arith, inl, inr, ◌⊎◌}
 use Rattle.std.specs.List.{All}
 use Rattle.std.proofs.lemmas.Bool.{lt-ltb, le-ltb}
 use Rattle.std.proofs.lemmas.List.{append-nil, append_assoc, length-append, length-map, map-append}
-use Rattle.std.proofs.lemmas.List.Elements.{filter-append}
+use Rattle.std.proofs.lemmas.List.Elements.{All-map, filter-append}
 use mathlib.Core.List.{map-map}
-use Rattle.list_laws.specs.Each.{Each}
 use Rattle.list_laws.proofs.Each.{Each-all}
 use Rattle.list_laws.proofs.Filters.{filter-none, filter-all, filter_same}
 use Rattle.col_core.specs.declared.row_place.RowPlace.{RowPlace}
@@ -19,15 +18,19 @@ use Rattle.join_query.specs.declared.query.Query.{Query}
 use Rattle.join_laws.specs.declared.Pair.{Pair}
 use Rattle.join_model.specs.Answers.{joined_schema}
 use Rattle.join_model.specs.Filtered.{passes}
-use Rattle.join_model.specs.Joined.{nulls, rows_of, rows_join, rows_of_probe, joined_rows}
+use Rattle.join_model.specs.Joined.{nulls, rows_of, rows_of_probe, joined_rows}
 use Rattle.join_model.specs.Joined.{is_outer as is_outer_row}
-use Rattle.join_model.specs.Refusals.{is_good_plan, is_too_large, lists_too_many}
+use Rattle.join_model.specs.Refusals.{is_good_plan, lists_too_many}
 use Rattle.join_tables.specs.declared.built.Built.{Built}
 use Rattle.join_tables.specs.declared.error.ProbeError.{ProbeError}
 use Rattle.join_tables.specs.declared.error.ProbeError.TheVariants as probes
-use Rattle.join_probes.specs.Probed.{is_unmatched, MorselFails}
-use Rattle.join_engine.specs.Listed.{rows_of_probes, outer_row, HasListed, IsListing, IsQueryErrorOf, ListingFails}
+use Rattle.join_laws.specs.Outer.{is_outer}
+use Rattle.join_probes.specs.Keys.{build_key}
+use Rattle.join_probes.specs.Probed.{is_joined, is_unmatched, pair_row, CanJoin, HasProbed, IsPair, MorselFails}
+use Rattle.join_probes.proofs.Probes.{unmatched_are}
+use Rattle.join_engine.specs.Listed.{rows_of_probes, outer_pair, outer_row, IsListing, IsQueryErrorOf, ListingFails}
 use Rattle.join_engine.specs.declared.listing.Listing.{Listing}
+use Rattle.join_engine.proofs.Fronts.{all_middle}
 
 -- without a filter all rows are kept
 pub all_kept : (q : Query) (rows : List Row) → q.filter ≡ None → filter (passes q) rows ≡ rows
@@ -63,6 +66,11 @@ more_listed q rows new old after h k n few =
       within = omega (arith, h.listed, few, length-append rows new);
     }
 
+-- there is room for them in one frame
+pub few_kept : (q : Query) (rows new passing : List Row) (old : Listing) → IsListing q rows old → passing ≡ filter (passes q) new → old.listed + length new ≤ q.plan.rows → is_good_plan q.plan ≡ true → length old.kept.rows + length passing < 2 ^ 64
+few_kept q rows new passing old h e few good =
+    omega (arith, h.within, h.listed, ap (λ (t : Table). length t.rows) h.kept, fewer_pass (passes q) rows, ap length e, fewer_pass (passes q) new, few, good_rows q.plan good)
+
 -- the joined rows of probe rows more
 pub probes_more : (q : Query) (build : List Table) (probed rows : List Row) → rows_of_probes q build (probed ++ rows) ≡ rows_of_probes q build probed ++ rows_of_probes q build rows
 probes_more q build [] rows = refl
@@ -70,9 +78,11 @@ probes_more q build (p ∷ probed) rows =
     ap (λ (xs : List Row). rows_of_probe q (rows_of build) p ++ xs) (probes_more q build probed rows)
     ∙ sym (append_assoc (rows_of_probe q (rows_of build) p) (rows_of_probes q build probed) (rows_of_probes q build rows))
 
--- a morsel that is not too large
-pub few_rows : (t : Table) → length t.rows < 2 ^ 31 → is_too_large (t ∷ []) ≡ false
-few_rows t h = let long = ap length (append-nil t.rows) in grind arith
+-- the pairs of a morsel are listed
+pub morsel_listed : (q : Query) (build : List Table) (probed rows : List Row) (pairs : List Pair) (gives : Pair → Row) (listing after : Listing) → map gives pairs ≡ rows_of_probes q build rows
+    → IsListing q (rows_of_probes q build probed ++ map gives pairs) after → IsListing q (rows_of_probes q build (probed ++ rows)) after
+morsel_listed q build probed rows pairs gives listing after are h =
+    subst (λ (rs : List Row). IsListing q rs after) (ap (λ (rs : List Row). rows_of_probes q build probed ++ rs) are ∙ sym (probes_more q build probed rows)) h
 
 -- too many rows of a morsel are too many in all
 pub morsel_fails : (q : Query) (build : List Table) (probed rows : List Row) (listing : Listing) (p : ProbeError) (e : QueryError) → IsListing q (rows_of_probes q build probed) listing
@@ -93,6 +103,10 @@ fails_front q front rest whole (UnsupportedReduction index) is h = h
 fails_front q front rest whole UnsupportedFilter is h = h
 fails_front q front rest whole BadPlan is h = h
 fails_front q front rest whole NotBuilt is h = h
+
+-- too many rows of a front of the probe rows are too many in all
+pub fails_with_more : (q : Query) (build : List Table) (front rest whole : List Row) (e : QueryError) → whole ≡ front ++ rest → ListingFails q (rows_of_probes q build front) e → ListingFails q (rows_of_probes q build whole) e
+fails_with_more q build front rest whole e is h = fails_front q (rows_of_probes q build front) (rows_of_probes q build rest) (rows_of_probes q build whole) e (ap (rows_of_probes q build) is ∙ probes_more q build front rest) h
 
 -- and is the cause of a refusal
 pub fails_cause : (q : Query) (build probe : List Table) (e : QueryError) → ListingFails q (joined_rows q (rows_of build) (rows_of probe)) e → (e ≡ Memory) ⊎ ((e ≡ TooLarge) × (lists_too_many q build probe ≡ true))
@@ -124,3 +138,34 @@ with_outer q build probed places h are =
     ap (λ (bs : List Row). rows_of_probes q build probed ++ map (λ (b : Row). nulls q.probe_schema ++ b) bs)
     (filter_same (is_outer_row q probed) (is_unmatched q probed) (rows_of build) (Each-all (λ b. is_outer_row q probed b ≡ is_unmatched q probed b) (rows_of build) (λ b. ap (λ (keep : Bool). keep && is_unmatched q probed b) h)) ∙ sym are)
     ∙ ap (λ (rows : List Row). rows_of_probes q build probed ++ rows) (map-map (λ (b : Row). nulls q.probe_schema ++ b) (row_of build) places)
+
+module _ (q : Query) (build : List Table) (places done chunk rest : List RowPlace) (cut : places ≡ done ++ (chunk ++ rest)) where
+  -- places in the middle, as pairs
+  pub outer_inside : (none : Table) → All (IsPlace build) places → All (IsPair none build) (map outer_pair chunk)
+  outer_inside none all = All-map (IsPair none build) outer_pair chunk (all_middle (IsPlace build) done chunk rest (subst (All (IsPlace build)) cut all))
+
+  -- they are not too many
+  pub few_outer : (rows : List Row) (old now : Listing) → IsListing q rows old → IsListing q (rows ++ map (outer_row q build) done) now → old.listed + length places ≤ q.plan.rows → now.listed + length chunk ≤ q.plan.rows
+  few_outer rows old now h k few =
+      omega (arith, few, h.listed, k.listed, length-append rows (map (outer_row q build) done), length-map done (outer_row q build), ap length cut, length-append done (chunk ++ rest), length-append chunk rest)
+
+  -- and are listed after the others
+  pub outer_more : (none : Table) (rows : List Row) (pairs : List Pair) (after : Listing) → pairs ≡ map outer_pair chunk
+      → IsListing q ((rows ++ map (outer_row q build) done) ++ map (pair_row q none build) pairs) after → IsListing q (rows ++ map (outer_row q build) (done ++ chunk)) after
+  outer_more none rows pairs after are h =
+      subst (λ (rs : List Row). IsListing q rs after)
+      (ap (λ (ps : List Pair). (rows ++ map (outer_row q build) done) ++ map (pair_row q none build) ps) are
+      ∙ ap (λ (rs : List Row). (rows ++ map (outer_row q build) done) ++ rs) (map-map (pair_row q none build) outer_pair chunk)
+      ∙ append_assoc rows (map (outer_row q build) done) (map (outer_row q build) chunk)
+      ∙ ap (λ (rs : List Row). rows ++ rs) (sym (map-append (outer_row q build) done chunk))) h
+
+-- the places of the outer build rows, as the tables tell them
+pub outer_told : (q : Query) (build : List Table) (probed : List Row) (places : List RowPlace) (now : Built) → CanJoin q → HasProbed q build probed now → q.keep_build ≡ true
+    → map (row_of build) places ≡ filter (λ b. is_outer (is_joined q probed) (build_key q b)) (rows_of build) → joined_rows q (rows_of build) probed ≡ rows_of_probes q build probed ++ map (outer_row q build) places
+outer_told q build probed places now can h keep are = with_outer q build probed places keep (are ∙ unmatched_are q build probed now can h)
+
+-- outer rows that are too many are too many in all
+pub outer_fails : (q : Query) (build : List Table) (probed : List Row) (places : List RowPlace) (listing : Listing) → IsListing q (rows_of_probes q build probed) listing
+    → joined_rows q (rows_of build) probed ≡ rows_of_probes q build probed ++ map (outer_row q build) places → q.plan.rows - listing.listed < length places → q.plan.rows < length (joined_rows q (rows_of build) probed)
+outer_fails q build probed places listing h are many =
+    omega (arith, many, h.listed, h.within, ap length are, length-append (rows_of_probes q build probed) (map (outer_row q build) places), length-map places (outer_row q build))

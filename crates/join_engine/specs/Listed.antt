@@ -1,5 +1,5 @@
 -- What the engine rests on, and the rows that it has listed so far.
-use Rattle.std.specs.Prelude.{◌≡◌, ◌<◌, ◌≤◌, ℕ, true, false, List, ◌++◌, map, filter, flat_map, length, Some, None}
+use Rattle.std.specs.Prelude.{◌≡◌, ◌<◌, ◌≤◌, true, false, List, ◌++◌, filter, flat_map, length, Some, None}
 use Rattle.col_core.specs.declared.row_place.RowPlace.{RowPlace}
 use Rattle.col_core.specs.Places.{row_of}
 use Rattle.col_core.specs.Tables.{Row, Table}

@@ -1,5 +1,5 @@
 //! The build rows that no probe row joins.
-ghost use Rattle.std.specs.Prelude.{◌≡◌, ◌+◌, ◌≤◌, ◌++◌, None, Some, List as Items, map, length, IfOk, IfErr};
+ghost use Rattle.std.specs.Prelude.{◌≡◌, ◌+◌, ◌≤◌, ◌++◌, false, None, Some, List as Items, map, length, IfOk, IfErr};
 ghost use Rattle.std.specs.List.{All};
 ghost use Rattle.col_core.specs.Places.{IsPlace};
 ghost use Rattle.col_core.specs.Tables.{Row};

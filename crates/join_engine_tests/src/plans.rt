@@ -82,7 +82,7 @@ const PLANS: [Plan; 7] = [
         ..DEFAULT_PLAN
     },
     Plan {
-        partitions: 65_536,
+        partitions: 64,
         mask: 0,
         limit: 1,
         morsel: 1,

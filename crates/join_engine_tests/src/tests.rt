@@ -17,8 +17,18 @@ fn outcome(alloc: Global, plan: Plan) -> Result<Result<bool, QueryError>, Fail> 
     Ok(answered.map(|(rows, groups)| rows.as_str() == ROWS && groups.as_str() == GROUPS))
 }
 
-const PLANS: [(Plan, Result<bool, QueryError>); 6] = [
+const PLANS: [(Plan, Result<bool, QueryError>); 7] = [
     (DEFAULT_PLAN, Ok(true)),
+    (
+        Plan {
+            partitions: 65_536,
+            mask: 0,
+            limit: 1,
+            morsel: 1,
+            ..DEFAULT_PLAN
+        },
+        Ok(true),
+    ),
     (
         Plan {
             limit: 1,

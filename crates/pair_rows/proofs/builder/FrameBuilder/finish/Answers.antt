@@ -30,7 +30,7 @@ loop-column-preserved c =
     let fits : AllFit one = search rules in
     record {
       parts = rw pushed (now_finishing schema c.schema.inside.fields.items columns (into_iter_items c.into_iter-column-iterator.result) rest rest (done ++ one ∷ []) (sym c.schema.view_is) (sym all) refl
-      (finishing_more schema columns c.self.inside.height c.self.invariant done rest c.in-Some.column c.field-field.result.now (rw (← count) c.field-field.ensures) before));
+          (finishing_more schema columns c.self.inside.height c.self.invariant done rest c.in-Some.column c.field-field.result.now (rw (← count) c.field-field.ensures) before));
       fits = rw pushed (All-push AllFit done one c.loop-column.invariant.fits fits);
       counted = let short = ap length left in let gone = c.in-Some.ensures.steps.1 in let was = c.loop-column.invariant.counted in omega arith;
     }
