@@ -11,7 +11,12 @@ use reduce_model::ReductionKind;
 use std::alloc::{AllocError, Global};
 
 /// The sums of `Int64` numbers, each in a group of its own.
-fn sums_of(alloc: Global, numbers: &[Option<i128>], group_idxs: &[u32], groups: u32) -> Result<AnyReduction, AllocError>
+fn sums_of(
+    alloc: Global,
+    numbers: &[Option<i128>],
+    group_idxs: &[u32],
+    groups: u32,
+) -> Result<AnyReduction, AllocError>
     ensures { IfOk result (λ r. ⟦<AnyReduction as Stated>⟧.shape r ≡ record { kind = Sum; dtype = Int64; fixed = true; groups = groups; form = 2 }) }
 {
     let values = column(alloc, DataType::Int64, numbers)?;
@@ -52,10 +57,22 @@ fn groups_are_merged(rt: HostRuntime) -> Result<(), AllocError> {
     let idxs = [0, 1];
     let mut one = sums_of(alloc, &ours, &idxs, 2)?;
     one.combine(&sums_of(alloc, &theirs, &idxs, 2)?, &[1, 0])?;
-    assert!(rt; holds(&one.finalize(alloc)?, DataType::Int64, &[Some(21), Some(12)]));
+    assert!(rt;
+        holds(
+            &one.finalize(alloc)?,
+            DataType::Int64,
+            &[Some(21), Some(12)]
+        )
+    );
     let mut other = sums_of(alloc, &theirs, &idxs, 2)?;
     other.combine(&sums_of(alloc, &ours, &idxs, 2)?, &[1, 0])?;
-    assert!(rt; holds(&other.finalize(alloc)?, DataType::Int64, &[Some(12), Some(21)]));
+    assert!(rt;
+        holds(
+            &other.finalize(alloc)?,
+            DataType::Int64,
+            &[Some(12), Some(21)]
+        )
+    );
     let mut some = sums_of(alloc, &[None], &[0], 1)?;
     some.gather_combine(&sums_of(alloc, &ours, &idxs, 2)?, &[1, 1], &[0, 0])?;
     assert!(rt; holds(&some.finalize(alloc)?, DataType::Int64, &[Some(4)]));

@@ -86,7 +86,10 @@ fn sums_wrap_in_what_keeps_them(rt: HostRuntime) -> Result<(), AllocError> {
     ];
     for (dtype, first, second, sum_type, sum) in cases {
         let numbers = [None, Some(first), Some(second), None];
-        assert!(rt; sums_to(rt.alloc(), dtype, &numbers, sum_type, sum)?, "{first} and {second}");
+        assert!(rt;
+            sums_to(rt.alloc(), dtype, &numbers, sum_type, sum)?,
+            "{first} and {second}"
+        );
     }
     Ok(())
 }
