@@ -1,0 +1,5 @@
+pub mod KeyBytes
+pub mod GroupRows
+pub mod Morsels
+pub mod Taken
+pub mod Answer

@@ -1,0 +1,2 @@
+//! Groups of joined rows.
+#![tactic(auto)]
