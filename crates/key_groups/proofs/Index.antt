@@ -8,7 +8,7 @@ use Rattle.std.proofs.lemmas.List.{map-append, length-append, take_more}
 use Rattle.std.proofs.lemmas.List.Sums.{fold_push}
 use Rattle.std.proofs.lemmas.Slice.Eq.{bytes_eq-Decides}
 use Rattle.list_laws.specs.Distinct.{with_new}
-use Rattle.list_laws.proofs.Keys.{any_with_new, any_from, same_self, flips_false}
+use Rattle.list_laws.proofs.Keys.{any_from, same_self, flips_false}
 use Rattle.key_groups.specs.Taken.{index_in, TookKeys, TookFront}
 
 module _ {K : Type 0} (E : K → K → Bool) (dec : (a b : K) → Decides (E a b) (a ≡ b)) where

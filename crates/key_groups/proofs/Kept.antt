@@ -1,9 +1,10 @@
 -- Keys that a map keeps, with their hashes.
-use Rattle.std.proofs.Common.{◌≡◌, ℕ, zero, suc, ◌+◌, ◌<◌, List, [], ◌∷◌, ◌++◌, map, length, get_or, slice_get, slice_index, slice_index_or, Option, Some, None, refl, sym, ap, ap₂, ◌∙◌, subst, arith}
+use Rattle.std.proofs.Common.{◌≡◌, ℕ, zero, suc, ◌<◌, List, [], ◌∷◌, length, get_or, slice_get, slice_index_or, Option, Some, None, refl, sym, ap, ◌∙◌, subst, arith}
 use Rattle.std.specs.List.{All}
 use Rattle.std.specs.Prelude.{unwrap_or}
-use Rattle.std.proofs.lemmas.List.{map-append}
-use Rattle.std.proofs.lemmas.List.Elements.{All-head, All-tail, All-push}
+use Rattle.std.proofs.lemmas.List.Elements.{All-head, All-tail}
+use Rattle.col_core.specs.declared.schema.Field.{Field}
+use Rattle.row_code.specs.Spelling.{IsSpelling}
 use Rattle.key_parts.specs.declared.hash.PlRandomState.{PlRandomState}
 use Rattle.key_parts.specs.Hashes.{hash_of}
 use Rattle.key_parts.specs.Partitions.{Partitioner, partition_of, partition_of_hash}
@@ -51,3 +52,9 @@ present_at (k ∷ keys) (suc i) lt = present_at keys i (omega arith)
 pub part_is : (state : PlRandomState) (p : Partitioner) (q h : ℕ) (b key : List ℕ) → q ≡ partition_of_hash p h → h ≡ hash_of state b → b ≡ key → q ≡ partition_of state p (Some key)
 unfolding partition_of
 part_is state p q h b key e f g = e ∙ ap (partition_of_hash p) (f ∙ ap (hash_of state) g)
+
+-- the keys that are kept spell rows
+pub spelled_at : {V : Type 0} (schema : List Field) (es : List (Entry V)) (i : ℕ) (key : List ℕ) → All (λ e. IsSpelling schema e.key) es → slice_get (keys_of es) i ≡ Some key → IsSpelling schema key
+spelled_at schema [] i key kept at = absurd (let no : None ≡ Some key = at in cc)
+spelled_at {V} schema (e ∷ es) zero key kept at = subst (IsSpelling schema) (some_same at) (All-head (λ (x : Entry V). IsSpelling schema x.key) e es kept)
+spelled_at {V} schema (e ∷ es) (suc i) key kept at = spelled_at schema es i key (All-tail (λ (x : Entry V). IsSpelling schema x.key) e es kept) at

@@ -1,17 +1,19 @@
 //! What every grouper does.
-ghost use Rattle.std.specs.Prelude.{◌≡◌, ◌+◌, ◌<◌, ◌⊎◌, ◌^◌, [], Some, IfOk, OnOk, OnErr};
+ghost use Rattle.std.specs.Prelude.{◌≡◌, ◌+◌, ◌<◌, ◌⊎◌, ◌^◌, List, [], Some, IfOk, OnOk, OnErr};
 ghost use Rattle.std.specs.Prelude.{map, length, slice_get, is_some, true, false, bytes_eq};
 ghost use Rattle.std.specs.List.{All};
 ghost use Rattle.key_parts.specs.Hashes.{hash_of};
 ghost use Rattle.key_parts.specs.Partitions.{partition_of};
 ghost use Rattle.hash_keys.specs.Dealt.{deals, sketched};
 ghost use Rattle.hash_keys.specs.Views.{keys_of, state_of};
+ghost use Rattle.col_core.specs.Tables.{Row};
+ghost use Rattle.row_code.specs.Spelling.{row_spelling, IsRowOf, IsSpelling};
 ghost use Rattle.list_laws.specs.Distinct.{NoRepeat};
 ghost use Rattle.key_groups.specs.Groups.{KeyGroups, no_groups, with_keys, bytes_of, keys_at};
 ghost use Rattle.key_groups.specs.Dealt.{all_present, DealtFront};
 ghost use Rattle.key_groups.specs.Taken.{TookKeys, TookFront};
 
-use col_core::Schema;
+use col_core::{Frame, Schema};
 use hash_keys::HashKeys;
 use key_parts::{CardinalitySketch, HashPartitioner, IdxSize, PlRandomState};
 use std::alloc::{AllocError, Global};
@@ -19,7 +21,7 @@ use std::sync::ledger::Ledger;
 use step_count::Steps;
 
 /// Distinct keys, numbered in order of insertion: the index of a key is its place, and never
-/// changes. The keys are spelled under a key schema and come hashed under a state, and every call
+/// changes. Each key spells a row of a key schema and comes hashed under a state, and every call
 /// keeps both.
 ///
 /// The three calls by which keys come clear `group_idxs` and put there the index of each key that
@@ -39,10 +41,11 @@ pub trait Grouper: Sized + Drop {
     fn reserve(&mut self, additional: usize) -> Result<(), AllocError>
         ensures { seen self.new ≡ seen self.old };
 
-    /// The number of keys, which are distinct.
+    /// The number of keys, which are distinct and spell rows of the schema.
     fn num_groups(&self) -> IdxSize
         ensures count { result ≡ length (seen self.now).keys }
-        ensures distinct { NoRepeat bytes_eq (seen self.now).keys };
+        ensures distinct { NoRepeat bytes_eq (seen self.now).keys }
+        ensures spelled { All (IsSpelling (seen self.now).schema) (seen self.now).keys };
 
     /// The state that keys are hashed under.
     fn state(&self) -> PlRandomState
@@ -65,6 +68,7 @@ pub trait Grouper: Sized + Drop {
         steps: &mut Steps<L>,
     ) -> Result<(), AllocError>
         requires present { All (λ k. is_some k ≡ true) (keys_of keys) }
+        requires spelled { All (IsSpelling (seen self.old).schema) (bytes_of (keys_of keys)) }
         requires same_state { state_of keys ≡ (seen self.old).state }
         requires few { length (with_keys (seen self.old).keys (bytes_of (keys_of keys)))
             < 2 ^ 32 }
@@ -136,4 +140,10 @@ pub trait Grouper: Sized + Drop {
         ensures err { OnErr result (DealtFront (partition_of (seen self.now).state partitioner.now)
             (hash_of (seen self.now).state) partitioner.now.partitions sketches.old
             (all_present (seen self.now).keys) (map (λ v. v.items) partition_idxs.new) sketches.new) };
+
+    /// The rows that the keys spell, in their order: row `i` is that of key `i`.
+    fn get_keys_in_group_order(&self, alloc: Global) -> Result<Frame, AllocError>
+        ensures { IfOk result (λ f. (rows : List Row) → All (IsRowOf (seen self.now).schema) rows
+            → (seen self.now).keys ≡ map (row_spelling (seen self.now).schema) rows
+            → f ≡ record { schema = (seen self.now).schema; rows = rows }) };
 }

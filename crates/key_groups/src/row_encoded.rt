@@ -5,15 +5,17 @@ ghost use Rattle.key_parts.specs.Hashes.{hash_of};
 ghost use Rattle.key_parts.specs.Partitions.{partition_of};
 ghost use Rattle.key_parts.specs.Sketches.{with_hashes};
 ghost use Rattle.hash_keys.specs.Dealt.{goes_to, hash_in};
+ghost use Rattle.row_code.specs.Spelling.{IsSpelling};
 ghost use Rattle.list_laws.specs.Distinct.{with_new};
 ghost use Rattle.key_groups.specs.Groups.{no_groups, key_at};
 ghost use Rattle.key_groups.specs.Taken.{index_in};
 
 use crate::grouper::Grouper;
 use byte_map::{BytesIndexMap, Found};
-use col_core::Schema;
+use col_core::{Frame, Schema};
 use hash_keys::{HashKeys, clear_lists, insert_hash, push_row};
 use key_parts::{CardinalitySketch, HashPartitioner, IdxSize, PlRandomState};
+use row_code::RowDecoder;
 use std::alloc::{AllocError, Global};
 use std::marker::Model;
 use std::sync::ledger::Ledger;
@@ -77,6 +79,7 @@ impl RowEncodedHashGrouper {
         requires { i < length self.now.keys }
         ensures key { result.1.now ≡ key_at self.now.keys i }
         ensures hash { result.0 ≡ hash_of self.now.state result.1.now }
+        ensures spelled { IsSpelling self.now.schema result.1.now }
     {
         self.known.key_at(i)
     }
@@ -89,6 +92,7 @@ impl RowEncodedHashGrouper {
         steps: &mut Steps<L>,
     ) -> Result<IdxSize, AllocError>
         requires hashed { hash ≡ hash_of self.old.state key.now }
+        requires spelled { IsSpelling self.old.schema key.now }
         requires few { length (with_new bytes_eq self.old.keys key.now) < 2 ^ 32 }
         ensures ok { OnOk result (self.new
             ≡ record self.old { keys = with_new bytes_eq self.old.keys key.now }) }
@@ -112,6 +116,7 @@ impl RowEncodedHashGrouper {
         steps: &mut Steps<L>,
     ) -> Result<(), AllocError>
         requires hashed { hash ≡ hash_of self.old.state key.now }
+        requires spelled { IsSpelling self.old.schema key.now }
         requires few { length (with_new bytes_eq self.old.keys key.now) < 2 ^ 32 }
         ensures ok { OnOk result (self.new
             ≡ record self.old { keys = with_new bytes_eq self.old.keys key.now }) }
@@ -248,5 +253,13 @@ impl Grouper for RowEncodedHashGrouper {
             self.deal_key(partitioner, i, partition_idxs, sketches)?;
         }
         Ok(())
+    }
+
+    fn get_keys_in_group_order(&self, alloc: Global) -> Result<Frame, AllocError> {
+        let mut rows = RowDecoder::new(alloc, self.key_schema())?;
+        for i in 0..self.num_groups() {
+            rows.push_row(self.key(i))?;
+        }
+        rows.finish(alloc)
     }
 }

@@ -1,4 +1,4 @@
-use Rattle.std.proofs.Common.{◌≡◌, ℕ, ◌==◌, cond, ◌++◌, List, [], ◌∷◌, Vec, Global, map, get_or, ap, ap₂, ◌∙◌}
+use Rattle.std.proofs.Common.{ℕ, ◌==◌, cond, ◌++◌, [], ◌∷◌, Vec, Global, map, get_or, ap, ap₂, ◌∙◌}
 use Rattle.key_parts.specs.Hashes.{hash_of}
 use Rattle.key_parts.specs.Sketches.{with_hashes}
 use Rattle.key_groups.specs.Groups.{key_at}

@@ -1,9 +1,10 @@
-use Rattle.std.proofs.Common.{◌≡◌, ◌<◌, ◌+◌, ◌^◌, ◌∙◌, ◌++◌, ◌∷◌, [], ℕ, List, ap, sym, subst, length, bytes_eq, arith}
+use Rattle.std.proofs.Common.{◌≡◌, ◌<◌, ◌^◌, ◌∙◌, ◌∷◌, [], ℕ, List, ap, sym, subst, length, bytes_eq, arith}
 use Rattle.std.specs.List.{All}
 use Rattle.std.proofs.lemmas.List.{length-map, map-append}
 use Rattle.std.proofs.lemmas.List.Elements.{All-push}
 use Rattle.key_parts.specs.Hashes.{hash_of}
 use Rattle.byte_map.specs.Entries.{Entry, keys_of}
+use Rattle.row_code.specs.Spelling.{IsSpelling}
 use Rattle.list_laws.specs.Distinct.{with_new}
 use Rattle.key_groups.specs.Groups.{KeyGroups}
 use Rattle.key_groups.specs.Taken.{index_in}
@@ -30,8 +31,11 @@ invariant_of-self-in-Ok-New g c =
     let H : Entry (Unit {0}) → Type 0 = λ e. e.hash ≡ hash_of state e.key in
     let e : Entry (Unit {0}) = record { hash = c.args.hash; key = c.args.key.now; value = tt } in
     let hashed : H e = c.requires.hashed ∙ ap (λ (t : KeyGroups). hash_of t.state c.args.key.now) (sym c.self.view_is) in
+    let S : Entry (Unit {0}) → Type 0 = λ e. IsSpelling c.self.inside.key_schema e.key in
+    let spelled : S e = subst (λ (t : KeyGroups). IsSpelling t.schema c.args.key.now) (sym c.self.view_is) c.requires.spelled in
     record {
       hashed = subst (All H) (sym f.2) (All-push H es e c.self.invariant.hashed hashed);
+      spelled = subst (All S) (sym f.2) (All-push S es e c.self.invariant.spelled spelled);
       some = c.self.invariant.some;
     }
 

@@ -1,5 +1,7 @@
-use Rattle.std.proofs.Common.{◌≡◌, ◌<◌, ◌+◌, ◌^◌, ◌∙◌, [], List, ap, length, bytes_eq, arith}
+use Rattle.std.proofs.Common.{◌<◌, ◌^◌, ◌∙◌, [], List, ap, sym, subst, length, bytes_eq, arith}
 use Rattle.std.proofs.lemmas.Slice.Eq.{bytes_eq-Decides}
+use Rattle.col_core.specs.declared.schema.Field.{Field}
+use Rattle.row_code.specs.Spelling.{IsSpelling}
 use Rattle.key_groups.specs.Groups.{KeyGroups}
 use Rattle.key_groups.proofs.Index.{few_next, took_next, took_front, on_err}
 use Rattle.key_groups.proofs.row_encoded.RowEncodedHashGrouperGrouper.combine.Goals as goal
@@ -8,6 +10,9 @@ pub take_key-requires-clause-few : goal.take_key-requires-clause-few
 take_key-requires-clause-few g c =
     let below : c.loop-i.i < length c.args.other.now.keys = omega arith in
     few_next bytes_eq bytes_eq-Decides c.args.self.now.keys c.args.other.now.keys c.loop-i.self.keys c.loop-i.group_idxs.items c.hashed_key-hash.result.1.now [] c.loop-i.i (2 ^ 32) below c.hashed_key-hash.ensures.key c.loop-i.invariant.took c.requires.few
+
+pub take_key-requires-clause-spelled : goal.take_key-requires-clause-spelled
+take_key-requires-clause-spelled g c = subst (λ (s : List Field). IsSpelling s c.hashed_key-hash.result.1.now) (c.requires.same_schema ∙ sym c.loop-i.invariant.schema) c.hashed_key-hash.ensures.spelled
 
 pub loop-i-preserved : goal.loop-i-preserved
 loop-i-preserved g c =

@@ -1,6 +1,8 @@
-use Rattle.std.proofs.Common.{◌≡◌, ◌<◌, ◌+◌, ◌^◌, ◌∙◌, [], List, ap, sym, length, bytes_eq, arith}
+use Rattle.std.proofs.Common.{◌<◌, ◌^◌, ◌∙◌, [], List, ap, sym, subst, length, bytes_eq, arith}
 use Rattle.std.proofs.lemmas.List.{get_or-map, length-map}
 use Rattle.std.proofs.lemmas.Slice.Eq.{bytes_eq-Decides}
+use Rattle.col_core.specs.declared.schema.Field.{Field}
+use Rattle.row_code.specs.Spelling.{IsSpelling}
 use Rattle.key_groups.specs.Groups.{KeyGroups, key_at, keys_at}
 use Rattle.key_groups.proofs.Index.{few_next, took_next, took_front, on_err}
 use Rattle.key_groups.proofs.row_encoded.RowEncodedHashGrouperGrouper.gather_combine.Goals as goal
@@ -13,6 +15,9 @@ take_key-requires-clause-few g c =
     let found = c.hashed_key-hash.ensures.key ∙ sym (get_or-map (key_at ks) subset c.loop-i.i-index 0 [] inside) in
     let below : c.loop-i.i-index < length (keys_at c.args.other.now.keys c.args.subset.now) = omega (arith, length-map subset (key_at ks)) in
     few_next bytes_eq bytes_eq-Decides c.args.self.now.keys (keys_at c.args.other.now.keys c.args.subset.now) c.loop-i.self.keys c.loop-i.group_idxs.items c.hashed_key-hash.result.1.now [] c.loop-i.i-index (2 ^ 32) below found c.loop-i.invariant.took c.requires.few
+
+pub take_key-requires-clause-spelled : goal.take_key-requires-clause-spelled
+take_key-requires-clause-spelled g c = subst (λ (s : List Field). IsSpelling s c.hashed_key-hash.result.1.now) (c.requires.same_schema ∙ sym c.loop-i.invariant.schema) c.hashed_key-hash.ensures.spelled
 
 pub loop-i-preserved : goal.loop-i-preserved
 loop-i-preserved g c =

@@ -1,4 +1,4 @@
-use Rattle.std.proofs.Common.{◌≡◌, ℕ, ◌<◌, ◌++◌, Bool, false, true, cond, List, [], ◌∷◌, Some, Vec, Global, map, length, get_or, sym, ap, subst, ◌∙◌, arith}
+use Rattle.std.proofs.Common.{◌≡◌, ℕ, ◌++◌, false, true, cond, List, [], ◌∷◌, Some, Vec, Global, map, length, get_or, sym, ap, subst, ◌∙◌, arith}
 use Rattle.std.proofs.lemmas.List.{length-map}
 use Rattle.key_parts.specs.Hashes.{hash_of}
 use Rattle.key_parts.specs.Partitions.{partition_of}

@@ -1,7 +1,9 @@
-use Rattle.std.proofs.Common.{◌≡◌, ◌<◌, ◌+◌, ◌^◌, ◌∙◌, [], ℕ, List, ap, subst, take, length, bytes_eq, arith}
+use Rattle.std.proofs.Common.{◌≡◌, ◌<◌, ◌^◌, ◌∙◌, [], ℕ, List, ap, sym, subst, take, length, bytes_eq, arith}
 use Rattle.std.specs.Prelude.{unwrap_or}
 use Rattle.std.proofs.lemmas.List.{length-map, take_all}
 use Rattle.std.proofs.lemmas.Slice.Eq.{bytes_eq-Decides}
+use Rattle.col_core.specs.declared.schema.Field.{Field}
+use Rattle.row_code.specs.Spelling.{IsSpelling}
 use Rattle.hash_keys.specs.Views.{keys_of}
 use Rattle.key_groups.specs.Groups.{KeyGroups, bytes_of}
 use Rattle.key_groups.specs.Taken.{TookKeys}
@@ -16,6 +18,15 @@ take_key-requires-clause-few g c =
     let found = given_at ks c.loop-i.i c.in-Some.key.now inside c.in-Some.ensures in
     let below : c.loop-i.i < length (bytes_of (keys_of c.args.keys)) = omega (arith, length-map ks (λ k. unwrap_or k [])) in
     few_next bytes_eq bytes_eq-Decides c.args.self.now.keys (bytes_of (keys_of c.args.keys)) c.loop-i.self.keys c.loop-i.group_idxs.items c.in-Some.key.now [] c.loop-i.i (2 ^ 32) below found c.loop-i.invariant.took c.requires.few
+
+pub take_key-requires-clause-spelled : goal.take_key-requires-clause-spelled
+take_key-requires-clause-spelled g c =
+    let ks = keys_of c.args.keys in
+    let inside : c.loop-i.i < length ks = omega arith in
+    let found = given_at ks c.loop-i.i c.in-Some.key.now inside c.in-Some.ensures in
+    let below : c.loop-i.i < length (bytes_of ks) = omega (arith, length-map ks (λ k. unwrap_or k [])) in
+    subst (λ (s : List Field). IsSpelling s c.in-Some.key.now) (sym c.loop-i.invariant.schema)
+    (subst (IsSpelling c.args.self.now.schema) (sym found) (c.requires.spelled c.loop-i.i [] below))
 
 pub loop-i-preserved : goal.loop-i-preserved
 loop-i-preserved g c =

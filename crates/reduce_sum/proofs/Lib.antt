@@ -1,0 +1,3 @@
+pub mod Kept
+pub mod Totals
+pub mod Entered
