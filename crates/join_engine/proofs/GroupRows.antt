@@ -33,7 +33,7 @@ use Rattle.join_engine.specs.declared.totals.Entry.{Entry}
 use Rattle.join_engine.specs.Totals.{keys_of, total_of, add_entry, entry_at, entries_of, totals_table}
 use Rattle.join_model.specs.Refusals.{is_int64, is_sum, is_one_sum}
 use Rattle.join_model.specs.ColumnRefs.{ref_value, ref_type, ref_name}
-use Rattle.join_engine.specs.Simple.{is_one_column}
+use Rattle.join_engine.specs.Totals.{is_one_column}
 use Rattle.join_engine.proofs.Grouped.{keyed_rows}
 
 pub sum_is : (kind : ReductionKind) → is_sum kind ≡ true → kind ≡ Sum

@@ -1,7 +1,4 @@
-pub mod Placed
-pub mod Matched
-pub mod Gathered
+pub mod Listed
 pub mod Grouped
 pub mod GroupRows
 pub mod Parts
-pub mod JoinedRows

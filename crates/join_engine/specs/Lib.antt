@@ -5,7 +5,5 @@ pub use Rattle.join_model.specs.Filtered
 pub use Rattle.join_model.specs.Groups
 pub use Rattle.join_model.specs.Answers
 pub use Rattle.join_model.specs.Refusals
-pub mod Places
-pub mod Pairs
-pub mod Simple
 pub mod Totals
+pub mod Listed

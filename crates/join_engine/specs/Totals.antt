@@ -1,5 +1,5 @@
 -- Keys with values, and the total of each key.
-use Rattle.std.specs.Prelude.{◌≡◌, ◌<◌, ℕ, ℤ, pos, true, List, [], ◌∷◌, ◌++◌, map, filter, fold, length, slice_index_or}
+use Rattle.std.specs.Prelude.{◌≡◌, ◌<◌, ℕ, ℤ, pos, Bool, true, false, List, [], ◌∷◌, ◌++◌, map, filter, fold, length, is_some, slice_index_or}
 use Rattle.col_core.specs.declared.leaf.Leaf.{Leaf}
 use Rattle.col_core.specs.declared.data_type.DataType.TheVariants.{Int64}
 use Rattle.col_core.specs.declared.leaf.Leaf.TheVariants as leaves
@@ -7,6 +7,10 @@ use Rattle.col_core.specs.declared.schema.Field.{Field}
 use Rattle.col_core.specs.Values.{value_at}
 use Rattle.col_core.specs.Tables.{Table, rows_from}
 use Rattle.std.specs.List.{range_with_len}
+use Rattle.col_core.specs.Schemas.{type_named}
+use Rattle.join_query.specs.declared.query.Query.{Query}
+use Rattle.join_query.specs.declared.query.ColumnRef.{ColumnRef}
+use Rattle.join_model.specs.ColumnRefs.{schema_of}
 use Rattle.join_model.specs.Keys.{tuple_eq}
 use Rattle.list_laws.specs.Distinct.{distinct, NoRepeat}
 use Rattle.reduce_model.specs.Folds.{add_value}
@@ -52,3 +56,8 @@ totals_table key sum keys totals = record {
   schema = key ∷ record { name = sum; dtype = Int64 } ∷ [];
   rows = rows_from (length keys) (map (λ k. value_at k 0) keys ∷ map leaves.Whole totals ∷ []);
 }
+
+-- one column, which its side has
+abbrev pub is_one_column : Query → List ColumnRef → Bool
+is_one_column q (ref ∷ []) = is_some (type_named ref.name (schema_of q ref.side))
+is_one_column q _ = false

@@ -8,14 +8,14 @@ ghost use Rattle.join_model.specs.Groups.{group_rows};
 ghost use Rattle.join_model.specs.Refusals.{is_one_sum};
 ghost use Rattle.join_model.specs.Answers.{joined_schema, group_schema, reduction_name};
 ghost use Rattle.join_model.specs.ColumnRefs.{ref_value, ref_type, ref_name};
-ghost use Rattle.join_engine.specs.Simple.{is_one_column};
+ghost use Rattle.join_engine.specs.Totals.{is_one_column};
 ghost use Rattle.join_engine.specs.Totals.{totals_table};
 
-use crate::gather::frame_of_columns;
 use crate::totals::{Totals, entries, group_totals};
 use col_core::{ColumnBuilder, DataType, Frame, Leaf, LeafRef, List, Name, Series};
 use join_model::{ColumnRef, Query, Reduction, kind_name, side_prefix};
 use join_pairs::joined_column;
+use pair_rows::frame_of_columns;
 use std::alloc::{AllocError, Global};
 
 // A column's name in the answer.

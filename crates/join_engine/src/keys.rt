@@ -1,19 +1,9 @@
-//! Keys: where they stand, when they are the same, and copies of them.
+//! Keys: when they are the same, and copies of them.
 ghost use Rattle.std.specs.Prelude.{◌≡◌, true, IfOk};
 ghost use Rattle.join_model.specs.Keys.{tuple_eq};
-ghost use Rattle.join_engine.specs.Simple.{is_one_name, IsKeyPlace};
 
-use col_core::{Leaf, List, Name, Schema};
+use col_core::{Leaf, List};
 use std::alloc::{AllocError, Global};
-
-/// Where the one key column of a side stands in its schema.
-#[tactic(auto, using(crate::proofs::Parts::key_is_some))]
-pub fn key_place(schema: &Schema, names: &[Name]) -> usize
-    requires { is_one_name schema.now names.now ≡ true }
-    ensures { IsKeyPlace schema.now names.now result }
-{
-    schema.position(names[0].as_str()).unwrap()
-}
 
 /// Whether two tuples are the same.
 pub fn tuple_eq(a: &[Leaf], b: &[Leaf]) -> bool

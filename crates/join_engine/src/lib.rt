@@ -7,11 +7,11 @@
 #![tactic(auto)]
 
 mod engine;
-mod gather;
 mod grouping;
 mod keys;
-mod pairs;
-mod places;
+mod listing;
+mod outer;
+mod probe;
 mod totals;
 
 pub use col_core::RowPlace;

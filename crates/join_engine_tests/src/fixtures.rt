@@ -18,7 +18,8 @@ fn whole_leaf(value: Option<i64>) -> Leaf
     }
 }
 
-fn whole_column(alloc: Global, name: &str, values: &[Option<i64>]) -> Result<Series, Fail> {
+/// A column of whole numbers.
+pub fn whole_column(alloc: Global, name: &str, values: &[Option<i64>]) -> Result<Series, Fail> {
     let mut built = ColumnBuilder::new(alloc, DataType::Int64);
     for value in values {
         built.push_leaf(&whole_leaf(*value))?;
@@ -40,7 +41,8 @@ fn text_column(alloc: Global, name: &str, values: &[&str]) -> Result<Series, Fai
     Ok(built.finish(alloc, Name::new(alloc, name)?)?)
 }
 
-fn schema(alloc: Global, fields: &[(&str, DataType)]) -> Result<Schema, Fail> {
+/// A schema of fields.
+pub fn schema(alloc: Global, fields: &[(&str, DataType)]) -> Result<Schema, Fail> {
     let mut list = Vec::new(alloc);
     for (name, dtype) in fields {
         list.push(Field {
@@ -73,20 +75,51 @@ pub fn orders(
     Frame::new(alloc, schema(alloc, &fields)?, columns).map_err(|_| Fail::from("frame"))
 }
 
-fn names(alloc: Global, name: &str) -> Result<List<Name>, Fail> {
+/// Two frames of customers.
+pub fn build_side(alloc: Global) -> Result<Vec<Frame>, Fail> {
+    let mut frames = Vec::new(alloc);
+    frames.push(customers(alloc, &[Some(1), Some(2)], &["Ann", "Bo"])?)?;
+    frames.push(customers(alloc, &[Some(1), None], &["Cy", "Di"])?)?;
+    Ok(frames)
+}
+
+/// One frame of orders.
+pub fn probe_side(alloc: Global) -> Result<Vec<Frame>, Fail> {
+    let mut frames = Vec::new(alloc);
+    frames.push(orders(
+        alloc,
+        &[Some(1), Some(3), Some(2), None],
+        &[Some(5), Some(7), None, Some(9)],
+    )?)?;
+    Ok(frames)
+}
+
+/// A list of names.
+pub fn names(alloc: Global, names: &[&str]) -> Result<List<Name>, Fail> {
     let mut list = Vec::new(alloc);
-    list.push(Name::new(alloc, name)?)?;
+    for name in names {
+        list.push(Name::new(alloc, *name)?)?;
+    }
     Ok(List::from_vec(list))
 }
 
-fn column(alloc: Global, side: Side, name: &str) -> Result<ColumnRef, Fail> {
+/// A column of a side.
+pub fn column(alloc: Global, side: Side, name: &str) -> Result<ColumnRef, Fail> {
     Ok(ColumnRef {
         side,
         name: Name::new(alloc, name)?,
     })
 }
 
-fn sum(alloc: Global, name: &str) -> Result<List<Reduction>, Fail> {
+/// One group key.
+pub fn grouped_by(alloc: Global, side: Side, name: &str) -> Result<List<ColumnRef>, Fail> {
+    let mut list = Vec::new(alloc);
+    list.push(column(alloc, side, name)?)?;
+    Ok(List::from_vec(list))
+}
+
+/// The sum of a column of the probe side.
+pub fn sum(alloc: Global, name: &str) -> Result<List<Reduction>, Fail> {
     let mut list = Vec::new(alloc);
     list.push(Reduction {
         kind: ReductionKind::Sum,
@@ -97,8 +130,6 @@ fn sum(alloc: Global, name: &str) -> Result<List<Reduction>, Fail> {
 
 /// The orders of each customer's name, added up.
 pub fn query(alloc: Global) -> Result<Query, Fail> {
-    let mut group_keys = Vec::new(alloc);
-    group_keys.push(column(alloc, Side::Build, "name")?)?;
     Ok(Query {
         build_schema: schema(
             alloc,
@@ -108,13 +139,13 @@ pub fn query(alloc: Global) -> Result<Query, Fail> {
             alloc,
             &[("cust", DataType::Int64), ("amt", DataType::Int64)],
         )?,
-        build_keys: names(alloc, "id")?,
-        probe_keys: names(alloc, "cust")?,
+        build_keys: names(alloc, &["id"])?,
+        probe_keys: names(alloc, &["cust"])?,
         null_equal: false,
         keep_probe: false,
         keep_build: false,
         filter: None,
-        group_keys: List::from_vec(group_keys),
+        group_keys: grouped_by(alloc, Side::Build, "name")?,
         reductions: sum(alloc, "amt")?,
         plan: DEFAULT_PLAN,
     })

@@ -2,6 +2,14 @@
 #![tactic(auto)]
 
 #[cfg(test)]
+mod asked;
+#[cfg(test)]
 mod fixtures;
+#[cfg(test)]
+mod kept;
+#[cfg(test)]
+mod key_types;
+#[cfg(test)]
+mod plans;
 #[cfg(test)]
 mod tests;

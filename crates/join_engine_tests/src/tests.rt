@@ -1,63 +1,9 @@
 //! What no clause shows: that the call succeeds, and that its clauses say what is meant.
-ghost use Rattle.std.specs.Prelude.{◌≡◌, ◌<◌};
-
-use crate::fixtures::{customers, frame_text, orders, query};
-use col_core::Frame;
-use join_engine::{DEFAULT_PLAN, Plan, Query, QueryError, stream_join_aggregate};
+use crate::asked::{answer, answered};
+use crate::fixtures::{build_side, probe_side, query};
+use join_engine::{DEFAULT_PLAN, Plan, QueryError};
 use std::alloc::Global;
-use std::marker::Brand;
-use std::sync::ledger::{Blank, Ledger};
 use std::test::Fail;
-use step_count::Steps;
-
-type Texts = (String, String);
-
-fn answer_from<L: Ledger>(
-    alloc: Global,
-    query: &Query,
-    build: &[Frame],
-    probe: &[Frame],
-    blank: Blank,
-) -> Result<Result<Texts, QueryError>, Fail>
-    requires name { blank.name ≡ L.name }
-    requires parts { blank.parts ≡ L.parts }
-    requires some { 0 < L.parts }
-{
-    let mut steps = Steps::<L>::new(blank);
-    match stream_join_aggregate(alloc, query, build, probe, &mut steps) {
-        Ok(answer) => Ok(Ok((
-            frame_text(alloc, &answer.rows)?,
-            frame_text(alloc, &answer.groups)?,
-        ))),
-        Err(e) => Ok(Err(e)),
-    }
-}
-
-fn answer(
-    alloc: Global,
-    query: &Query,
-    build: &[Frame],
-    probe: &[Frame],
-) -> Result<Result<Texts, QueryError>, Fail> {
-    answer_from::<Brand>(alloc, query, build, probe, Blank::new(1))
-}
-
-fn build_side(alloc: Global) -> Result<Vec<Frame>, Fail> {
-    let mut frames = Vec::new(alloc);
-    frames.push(customers(alloc, &[Some(1), Some(2)], &["Ann", "Bo"])?)?;
-    frames.push(customers(alloc, &[Some(1), None], &["Cy", "Di"])?)?;
-    Ok(frames)
-}
-
-fn probe_side(alloc: Global) -> Result<Vec<Frame>, Fail> {
-    let mut frames = Vec::new(alloc);
-    frames.push(orders(
-        alloc,
-        &[Some(1), Some(3), Some(2), None],
-        &[Some(5), Some(7), None, Some(9)],
-    )?)?;
-    Ok(frames)
-}
 
 const ROWS: &str = "1,5,1,Ann,;1,5,1,Cy,;2,null,2,Bo,;";
 
@@ -123,8 +69,7 @@ fn answers_under_each_plan(rt: HostRuntime) -> Result<(), Fail> {
 #[test]
 fn answers_no_frames(rt: HostRuntime) -> Result<(), Fail> {
     let alloc = rt.alloc();
-    let answered = answer(alloc, &query(alloc)?, &[], &[])?;
-    let (rows, groups) = answered.map_err(|_| Fail::from("refused"))?;
+    let (rows, groups) = answered(alloc, &query(alloc)?, &[], &[])?;
     assert!(rt; rows.is_empty() && groups.is_empty());
     Ok(())
 }

@@ -7,3 +7,6 @@ pub mod OuterRows
 pub mod Plans
 pub mod BuildFrames
 pub mod Query
+pub mod Calls
+pub mod Probes
+pub mod Checked

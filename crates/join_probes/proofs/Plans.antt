@@ -1,5 +1,5 @@
 -- The numbers of a good plan, and sides that are not too large.
-use Rattle.std.proofs.Common.{◌≡◌, ℕ, ◌<◌, ◌≤◌, ◌^◌, ◌%◌, true, false, List, length, arith}
+use Rattle.std.proofs.Common.{◌≡◌, ℕ, ◌<◌, ◌≤◌, ◌^◌, ◌%◌, true, false, List, [], ◌∷◌, length, ap, append-nil, arith}
 use Rattle.col_core.specs.Tables.{Table}
 use Rattle.join_query.specs.declared.query.Plan.{Plan}
 use Rattle.join_query.specs.declared.limits.TheConstants.{MAX_PARTITIONS, MAX_STATES, MAX_LIMIT, MAX_MORSEL, MAX_ROWS, SIDE_LIMIT}
@@ -26,5 +26,16 @@ few_frames frames h = grind arith
 
 pub few_rows : (frames : List Table) → is_too_large frames ≡ false → length (rows_of frames) < 2 ^ 31
 few_rows frames h = grind arith
+
+-- a morsel that is not too large
+pub few_alone : (t : Table) → is_too_large (t ∷ []) ≡ false → length t.rows < 2 ^ 31
+few_alone t h = omega (arith, few_rows (t ∷ []) h, ap length (append-nil t.rows))
+
+-- a morsel that has no more rows than a side that is not too large
+pub few_within : (t : Table) (frames : List Table) → length t.rows ≤ length (rows_of frames) → is_too_large frames ≡ false → is_too_large (t ∷ []) ≡ false
+few_within t frames l h =
+    let few = few_rows frames h in
+    let long = ap length (append-nil t.rows) in
+    grind arith
 
 pub ruleset good_plan = (some_partitions, few_partitions, some_limit, small_limit, odd_factor)

@@ -1,5 +1,5 @@
 -- What the tables of a query stand for, and what probes of them give.
-use Rattle.std.specs.Prelude.{◌≡◌, ◌<◌, ℕ, Bool, true, not, List, [], ◌++◌, map, length, Option, Some, None, slice_index_or}
+use Rattle.std.specs.Prelude.{◌≡◌, ◌<◌, ℕ, Bool, true, ◌||◌, not, List, [], ◌++◌, map, length, Option, Some, None, slice_index_or}
 use Rattle.std.specs.List.{All, list_any}
 use Rattle.col_core.specs.declared.row_place.RowPlace.{RowPlace}
 use Rattle.col_core.specs.Places.{row_of, IsPlace}
@@ -11,7 +11,7 @@ use Rattle.join_tables.specs.declared.built.Built.{Built}
 use Rattle.join_tables.specs.declared.error.ProbeError.{ProbeError}
 use Rattle.join_tables.specs.declared.error.ProbeError.TheVariants.{TooLarge, Memory}
 use Rattle.join_tables.specs.declared.plan.TablePlan.{TablePlan}
-use Rattle.join_tables.specs.Tables.{StandsFor, StandsForMore}
+use Rattle.join_tables.specs.Tables.{StandsFor}
 use Rattle.join_query.specs.declared.query.Query.{Query}
 use Rattle.join_model.specs.Joined.{rows_of, rows_join, nulls}
 use Rattle.join_model.specs.Refusals.{unknown_column, have_same_types, is_good_plan}
@@ -40,11 +40,21 @@ build_frame_keys q build = map (λ frame. map (build_key q) frame.rows) build
 abbrev pub is_joined : Query → List Row → List ℕ → Bool
 is_joined q probed key = joins_any (map (probe_key q) probed) key
 
--- tables and places are those of build frames, and the marked keys are those that some probe rows join
-pub record IsBuilt (q : Query) (build : List Table) (probed : List Row) (built : Built) : Type 0 where
-  pub stands : StandsFor (plan_of q) (build_frame_keys q build) (is_joined q probed) built
+-- tables and places are those of build frames, under marks that are a test of the key; the build rows have keys
+pub record IsBuilt (q : Query) (build : List Table) (marked : List ℕ → Bool) (built : Built) : Type 0 where
+  pub stands : StandsFor (plan_of q) (build_frame_keys q build) marked built
   pub build_keys : All (HasKey q.build_schema q.build_keys) (rows_of build)
-  pub probe_keys : All (HasKey q.probe_schema q.probe_keys) probed
+
+-- they are, but for some keys that are marked more, all of which some probe rows join
+pub record IsBuiltMore (q : Query) (build : List Table) (marked : List ℕ → Bool) (rows : List Row) (now : Built) : Type 0 where
+  pub more : List ℕ → Bool
+  pub joined : (k : List ℕ) → more k ≡ true → is_joined q rows k ≡ true
+  pub built : IsBuilt q build (λ k. marked k || more k) now
+
+-- they are, and the marked keys are those that the rows that have been probed join
+pub record HasProbed (q : Query) (build : List Table) (probed : List Row) (now : Built) : Type 0 where
+  pub built : IsBuilt q build (is_joined q probed) now
+  pub spelled : All (HasKey q.probe_schema q.probe_keys) probed
 
 -- the row of the build side that is part of a pair, and that of a morsel; nulls where there is none
 abbrev pub build_part : Query → List Table → Option RowPlace → Row

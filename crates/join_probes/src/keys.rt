@@ -1,9 +1,13 @@
-//! Where the columns of a side's key stand.
-ghost use Rattle.std.specs.Prelude.{◌≡◌, Some, map, IfOk, IsSome};
+//! The keys of a side's rows.
+ghost use Rattle.std.specs.Prelude.{◌≡◌, ◌<◌, ◌^◌, Some, map, length, IfOk, IsSome};
+ghost use Rattle.std.specs.List.{All};
 ghost use Rattle.col_core.specs.Schemas.{field_position};
-ghost use Rattle.join_probes.specs.Keys.{AreKnown};
+ghost use Rattle.hash_keys.specs.Views.{keys_of, state_of};
+ghost use Rattle.join_probes.specs.Keys.{row_key, AreKnown, HasKey};
 
-use col_core::{Name, Schema};
+use col_core::{Frame, Name, Schema};
+use hash_keys::HashKeys;
+use key_parts::PlRandomState;
 use std::alloc::{AllocError, Global};
 
 /// Where the first column of a name stands in a schema that has one.
@@ -26,4 +30,26 @@ pub fn key_places(alloc: Global, schema: &Schema, names: &[Name]) -> Result<Vec<
         places.push(key_place(schema, name))?;
     }
     Ok(places)
+}
+
+/// The keys of a frame's rows in columns of some names, hashed under a state.
+#[tactic(auto, using(crate::proofs::Sides::side))]
+pub(crate) fn side_keys(
+    alloc: Global,
+    null_equal: bool,
+    schema: &Schema,
+    names: &[Name],
+    frame: &Frame,
+    state: PlRandomState,
+) -> Result<HashKeys, AllocError>
+    requires known { AreKnown schema.now names.now }
+    requires same { frame.now.schema ≡ schema.now }
+    requires few { length frame.now.rows < 2 ^ 32 }
+    ensures keys { IfOk result (λ k.
+        keys_of k ≡ map (row_key null_equal schema.now names.now) frame.now.rows) }
+    ensures state { IfOk result (λ k. state_of k ≡ state) }
+    ensures spelled { IfOk result (λ _. All (HasKey schema.now names.now) frame.now.rows) }
+{
+    let places = key_places(alloc, schema, names)?;
+    HashKeys::from_columns(alloc, frame, &places, state, null_equal)
 }

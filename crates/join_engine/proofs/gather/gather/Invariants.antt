@@ -1,7 +1,0 @@
-use Rattle.std.proofs.Common.{◌≡◌, ◌++◌, map}
-use Rattle.std.specs.List.{range_with_len}
-use Rattle.join_engine.specs.Places.{gathered_column}
-use Rattle.join_engine.proofs.gather.gather.Given as goal
-
-abbrev pub invariant-loop-c : goal.invariant-loop-c
-invariant-loop-c l = l.columns.items ≡ l.fn.columns.items ++ map (gathered_column l.prefix l.schema l.frames l.places) (range_with_len 0 l.c)

@@ -1,0 +1,77 @@
+//! The rows that are listed: joined, filtered and kept.
+ghost use Rattle.std.specs.Prelude.{◌≡◌, ◌+◌, ◌≤◌, [], ◌++◌, false, List as Items, map, filter, length, IfOk};
+ghost use Rattle.std.specs.List.{All};
+ghost use Rattle.col_core.specs.Tables.{Row};
+ghost use Rattle.join_query.specs.declared.limits.TheConstants.{MAX_ROWS};
+ghost use Rattle.join_model.specs.Answers.{joined_schema};
+ghost use Rattle.join_model.specs.Filtered.{passes};
+ghost use Rattle.join_model.specs.Refusals.{filter_is_unsupported, has_mixed_filter};
+ghost use Rattle.join_probes.specs.Probed.{pair_row, IsPair};
+ghost use Rattle.join_engine.specs.Listed.{CanList, IsListing};
+
+use col_core::Frame;
+use join_model::Query;
+use join_pairs::{Pair, filter_rows, join_rows};
+use pair_rows::{FrameBuilder, joined_schema};
+use std::alloc::{AllocError, Global};
+
+/// The joined rows that are listed so far.
+#[derive(Drop)]
+pub(crate) struct Listing {
+    /// Their number, before the filter.
+    pub listed: u64,
+    /// Those that pass the filter.
+    pub kept: FrameBuilder,
+}
+
+/// No rows yet.
+pub(crate) fn no_rows(alloc: Global, query: &Query) -> Result<Listing, AllocError>
+    ensures { IfOk result (λ listing. IsListing query.now [] listing) }
+{
+    Ok(Listing {
+        listed: 0,
+        kept: FrameBuilder::new(alloc, joined_schema(alloc, query)?)?,
+    })
+}
+
+/// The joined rows that pass the filter. Where there is none, the rows are handed back as they are.
+#[tactic(auto, using(crate::proofs::Listed::all_kept))]
+fn passing(alloc: Global, query: &Query, rows: Frame) -> Result<Frame, AllocError>
+    requires joined { rows.schema ≡ joined_schema query.now }
+    requires integers { filter_is_unsupported query.now ≡ false }
+    requires one_type { has_mixed_filter query.now ≡ false }
+    requires few { length rows.rows ≤ MAX_ROWS }
+    ensures schema { IfOk result (λ f. f.schema ≡ joined_schema query.now) }
+    ensures rows { IfOk result (λ f. f.rows ≡ filter (passes query.now) rows.rows) }
+{
+    match &query.filter {
+        Some(_) => filter_rows(alloc, query, &rows),
+        None => Ok(rows),
+    }
+}
+
+/// Lists the rows of the pairs of a morsel.
+pub(crate) fn take_pairs(
+    alloc: Global,
+    query: &Query,
+    morsel: &Frame,
+    build: &[Frame],
+    pairs: &[Pair],
+    listing: Listing,
+) -> Result<Listing, AllocError>
+    requires can { CanList query.now build.now }
+    requires same { morsel.now.schema ≡ query.now.probe_schema }
+    requires pairs { All (IsPair morsel.now build.now) pairs.now }
+    requires listed { (rows : Items Row) × IsListing query.now rows listing }
+    requires few { listing.listed + length pairs.now ≤ query.now.plan.rows }
+    ensures { IfOk result (λ after. (rows : Items Row) → IsListing query.now rows listing
+        → IsListing query.now
+        (rows ++ map (pair_row query.now morsel.now build.now) pairs.now) after) }
+{
+    let joined = join_rows(alloc, query, morsel, build, pairs)?;
+    let passing = passing(alloc, query, joined)?;
+    Ok(Listing {
+        listed: listing.listed + pairs.len() as u64,
+        kept: listing.kept.append(&passing)?,
+    })
+}

@@ -1,0 +1,4 @@
+pub mod Gathered
+pub mod JoinedRows
+pub mod Growing
+pub mod Finished
