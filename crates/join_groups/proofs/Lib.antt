@@ -1,3 +1,5 @@
+pub mod Known
+pub mod Fields
 pub mod KeyBytes
 pub mod GroupRows
 pub mod Morsels

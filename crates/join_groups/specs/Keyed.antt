@@ -1,13 +1,15 @@
 -- Joined rows as local states take them: the bytes of a group key, and a value for each reduction.
-use Rattle.std.specs.Prelude.{ℕ, true, List, map}
+use Rattle.std.specs.Prelude.{◌≡◌, ℕ, true, List, map, is_some}
 use Rattle.col_core.specs.declared.schema.Field.{Field}
+use Rattle.col_core.specs.Schemas.{type_named}
 use Rattle.col_core.specs.Tables.{Row}
 use Rattle.key_parts.specs.declared.hash.PlRandomState.{PlRandomState}
 use Rattle.row_code.specs.Spelling.{IsRowOf, row_spelling}
 use Rattle.reduce_states.specs.Reductions.{Shape}
 use Rattle.join_query.specs.declared.query.Query.{Query}
+use Rattle.join_query.specs.declared.query.ColumnRef.{ColumnRef}
 use Rattle.join_query.specs.declared.query.Reduction.{Reduction}
-use Rattle.join_model.specs.ColumnRefs.{ref_type, ref_value}
+use Rattle.join_model.specs.ColumnRefs.{ref_type, ref_value, schema_of}
 use Rattle.join_model.specs.Groups.{group_key}
 use Rattle.join_model.specs.Answers.{key_field}
 use Rattle.group_locals.specs.Rows.{KeyedRow}
@@ -43,3 +45,7 @@ shape_of q r = record { kind = r.kind; dtype = ref_type q r.column; fixed = true
 -- what the local states of a query group for
 abbrev pub grouping_of_query : Query → Grouping
 grouping_of_query q = record { schema = group_fields q; state = plan_state q; shapes = map (shape_of q) q.reductions }
+
+-- the side of a column has it
+abbrev pub IsKnown : Query → ColumnRef → Type 0
+IsKnown q ref = is_some (type_named ref.name (schema_of q ref.side)) ≡ true

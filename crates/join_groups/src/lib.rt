@@ -1,2 +1,7 @@
-//! Groups of joined rows.
+//! Groups of joined rows over local states.
 #![tactic(auto)]
+
+mod columns;
+mod keys;
+mod names;
+mod table;
