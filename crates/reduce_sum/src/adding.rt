@@ -11,7 +11,7 @@ ghost use Rattle.reduce_states.specs.States.{State, amount, total, start, merge,
 ghost use Rattle.reduce_states.specs.Moves.{entered, numbered, ones, states_at};
 ghost use Rattle.reduce_sum.specs.Sums.{WrapsAs, is_whole, kept_as, total_states};
 
-use crate::sum_type::SumType;
+use crate::types::SumType;
 use col_arrays::{Native, PrimitiveArray};
 use col_core::{Chunk, IdxSize, Series};
 

@@ -3,9 +3,9 @@
 
 mod adding;
 mod any_sum;
-mod sum_type;
+mod types;
 mod sums;
 
 pub use any_sum::{AnySum, has_sum};
-pub use sum_type::SumType;
-pub use sums::SumReduce;
+pub use types::SumType;
+pub use sums::{SumReduce, sum_type};

@@ -8,7 +8,7 @@ ghost use Rattle.reduce_states.specs.Moves.{cut_or_filled};
 ghost use Rattle.reduce_sum.specs.Sums.{kept_as, form_of, total_states};
 
 use crate::adding::{add_totals, add_totals_at, add_values, with_values};
-use crate::sum_type::SumType;
+use crate::types::SumType;
 use col_core::{DataType, IdxSize, Name, Series};
 use group_parts::partition_vec;
 use group_reduce::{GroupedReduction, Stated, wrap_all};
@@ -170,7 +170,7 @@ impl<T: SumType> GroupedReduction for SumReduce<T> {
 }
 
 /// The type of a sum over a column type.
-fn sum_type(dtype: DataType) -> DataType
+pub fn sum_type(dtype: DataType) -> DataType
     ensures { result ≡ reduced_type Sum dtype }
 {
     match dtype {

@@ -1,0 +1,11 @@
+//! Reductions of groups of any kind, over columns of any type.
+//!
+//! [`AnyReduction`] hands each call on to the reduction of its kind, all of which have the contract
+//! of `GroupedReduction`. Begin with `any.rt`.
+#![tactic(auto)]
+
+mod any;
+mod new;
+
+pub use any::AnyReduction;
+pub use new::{KindError, new_sum_reduction};
