@@ -31,7 +31,7 @@ use Rattle.join_groups.specs.History.{HaveTaken, answer_locals, groups_of_rows, 
 use Rattle.join_groups.specs.Merged.{AreMergedRows}
 use Rattle.join_groups.proofs.GroupRows.{group_rows_are}
 use Rattle.join_groups.proofs.KeyBytes.{distinct_bytes}
-use Rattle.join_groups.proofs.Morsels.{keys_in_order, morsels_keyed}
+use Rattle.join_groups.proofs.KeyedMorsels.{keys_in_order, morsels_keyed}
 
 module _ {R : Type 0} (shape : R → Shape) (holds : R → List State → Type 0) (q : Query) (ms : List (List Row)) (order : List ℕ) (locals : List (LocalState R)) (have : HaveTaken shape holds q ms order locals) where
   -- the rows of the morsels of a local state have groups

@@ -26,17 +26,19 @@ use Rattle.join_query.specs.declared.query.Side.TheVariants.{Build}
 use Rattle.reduce_model.specs.declared.kind.ReductionKind.TheVariants.{Sum}
 use Rattle.col_core.specs.declared.data_type.DataType.TheVariants.{Binary}
 use Rattle.join_model.specs.ColumnRefs.{ref_type, ref_value}
+use Rattle.join_model.specs.Keys.{tuple_eq}
 use Rattle.join_model.specs.Groups.{group_key, group_keys, group_row, group_rows, members_of, reduced}
 use Rattle.join_model.specs.Answers.{group_schema}
 use Rattle.group_locals.specs.declared.groups.Groups.{Groups}
 use Rattle.group_locals.specs.Rows.{KeyedRow, values_for}
+use Rattle.group_locals.proofs.Tuples.{column_spelled, keys_spelled}
 use Rattle.group_locals.specs.Orders.{ordered_keys}
 use Rattle.group_locals.specs.History.{AreGroupsOf, GroupColumn, all_keys, rows_with}
 use Rattle.join_groups.specs.Keyed.{HasGroup, group_bytes, group_fields, grouping_of_query, keyed_row, reduced_values, shape_of}
 use Rattle.join_groups.specs.History.{keyed_morsels}
 use Rattle.join_groups.specs.Merged.{AreGroupRows, beside}
-use Rattle.join_groups.proofs.Morsels.{morsels_keyed}
-use Rattle.join_groups.proofs.KeyBytes.{distinct_bytes, groups_fit, members_keyed, spelled_same}
+use Rattle.join_groups.proofs.KeyedMorsels.{morsels_keyed}
+use Rattle.join_groups.proofs.KeyBytes.{groups_fit, same_bytes, spelled_same}
 
 -- a reduction and a column that stand for none
 no_reduction : Reduction
@@ -59,20 +61,8 @@ module _ (q : Query) (ms : List (List Row)) (fit : Each (HasGroup q) (rows_of_mo
   keyed = keyed_morsels q ms
 
   -- the keys of all rows spell the group keys
-  keys_spelled : all_keys keyed ≡ map (row_spelling (group_fields q)) (group_keys q rows)
-  keys_spelled = ap (λ (rs : List KeyedRow). distinct bytes_eq (map (λ row. row.key) rs)) (morsels_keyed q ms) ∙ ap (distinct bytes_eq) (map-map (λ (row : KeyedRow). row.key) (keyed_row q) rows) ∙ distinct_bytes q rows fit
-
-  members_are : (key : List Leaf) → IsRowOf (group_fields q) key → rows_with keyed (row_spelling (group_fields q) key) ≡ map (keyed_row q) (members_of q rows key)
-  members_are key h = ap (filter (λ row. bytes_eq row.key (row_spelling (group_fields q) key))) (morsels_keyed q ms) ∙ members_keyed q rows fit key h
-
-  -- what a reduction gives for the rows of a group
-  value_is : (i : ℕ) (d : Reduction) (key : List Leaf) → i < length q.reductions → IsRowOf (group_fields q) key
-      → fold_of (shape_of q (get_or q.reductions i d)).kind (shape_of q (get_or q.reductions i d)).dtype (values_for i (rows_with keyed (row_spelling (group_fields q) key))) ≡ reduced q (members_of q rows key) (get_or q.reductions i d)
-  value_is i d key l h =
-      let r = get_or q.reductions i d in
-      ap (λ (rs : List KeyedRow). fold_of r.kind (ref_type q r.column) (values_for i rs)) (members_are key h)
-      ∙ ap (fold_of r.kind (ref_type q r.column)) (map-map (λ (row : KeyedRow). value_at row.values i) (keyed_row q) (members_of q rows key)
-      ∙ map_agree (λ (row : Row). value_at (reduced_values q row) i) (ref_value q r.column) (λ row. get_or-map (λ (r : Reduction). ref_value q r.column row) q.reductions i d leaves.Null l) (members_of q rows key))
+  keys_are : all_keys keyed ≡ map (row_spelling (group_fields q)) (group_keys q rows)
+  keys_are = keys_spelled tuple_eq (group_key q) (row_spelling (group_fields q)) (reduced_values q) (IsRowOf (group_fields q)) (same_bytes (group_fields q)) ms fit
 
   module _ (columns : List Column) (are : PairsFrom (GroupColumn keyed) 0 (map (shape_of q) q.reductions) columns) where
     abbrev given : Reduction → List Leaf → Leaf
@@ -90,9 +80,9 @@ module _ (q : Query) (ms : List (List Row)) (fit : Each (HasGroup q) (rows_of_mo
         let here : GroupColumn keyed i (get_or (map (shape_of q) q.reductions) i s) (get_or columns i no_column) = subst (λ (k : ℕ). GroupColumn keyed k (get_or (map (shape_of q) q.reductions) i s) (get_or columns i no_column)) (zero-add i) at in
         let column = subst (λ (t : Shape). GroupColumn keyed i t (get_or columns i no_column)) (get_or-map (shape_of q) q.reductions i no_reduction s l) here in
         column.values_are
-        ∙ ap (map (λ k. fold_of s.kind s.dtype (values_for i (rows_with keyed k)))) keys_spelled
-        ∙ map-map (λ k. fold_of s.kind s.dtype (values_for i (rows_with keyed k))) (row_spelling (group_fields q)) (group_keys q rows)
-        ∙ map_same (λ key. fold_of s.kind s.dtype (values_for i (rows_with keyed (row_spelling (group_fields q) key)))) (given r) (group_keys q rows) (Each-weaker (IsRowOf (group_fields q)) _ (group_keys q rows) (λ key h. value_is i no_reduction key l h) (groups_fit q rows fit))
+        ∙ column_spelled tuple_eq (group_key q) (row_spelling (group_fields q)) (reduced_values q) (IsRowOf (group_fields q)) (same_bytes (group_fields q)) ms fit s i
+        ∙ map_agree (λ key. fold_of s.kind s.dtype (map (λ row. value_at (reduced_values q row) i) (members_of q rows key))) (given r) (λ key. ap (fold_of s.kind s.dtype) (
+        map_agree (λ row. value_at (reduced_values q row) i) (ref_value q r.column) (λ row. get_or-map (λ (r : Reduction). ref_value q r.column row) q.reductions i no_reduction leaves.Null l) (members_of q rows key))) (group_keys q rows)
 
     columns_are : values_of columns ≡ map (λ r. map (given r) (group_keys q rows)) q.reductions
     columns_are =
@@ -105,7 +95,7 @@ module _ (q : Query) (ms : List (List Row)) (fit : Each (HasGroup q) (rows_of_mo
   -- the groups of all rows, as a table
   pub group_rows_are : (g : Groups) (t : Table) → AreGroupsOf (grouping_of_query q) keyed g → AreGroupRows q g t → t ≡ record { schema = group_schema q; rows = group_rows q rows }
   group_rows_are g t of are =
-      let keys : are.keys ≡ group_keys q rows = spelled_same (group_fields q) are.keys (group_keys q rows) (Each-from_All (IsRowOf (group_fields q)) are.keys are.fit) (groups_fit q rows fit) (sym are.spelled ∙ of.keys_are ∙ keys_spelled) in
+      let keys : are.keys ≡ group_keys q rows = spelled_same (group_fields q) are.keys (group_keys q rows) (Each-from_All (IsRowOf (group_fields q)) are.keys are.fit) (groups_fit q rows fit) (sym are.spelled ∙ of.keys_are ∙ keys_are) in
       are.table_is ∙ ap (λ (rs : List Row). record { schema = group_schema q; rows = rs }) (
       ap₂ beside keys (columns_are g.columns of.columns_are)
       ∙ beside_made (λ r key. reduced q (members_of q rows key) r) q.reductions (group_keys q rows))

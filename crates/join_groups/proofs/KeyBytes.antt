@@ -24,7 +24,7 @@ use Rattle.group_locals.specs.Rows.{KeyedRow}
 use Rattle.join_groups.specs.Keyed.{HasGroup, group_bytes, group_fields, keyed_row}
 
 -- two rows of fields have equal bytes exactly where they are equal
-same_bytes : (fs : List Field) (a b : Row) → IsRowOf fs a → IsRowOf fs b → bytes_eq (row_spelling fs a) (row_spelling fs b) ≡ tuple_eq a b
+pub same_bytes : (fs : List Field) (a b : Row) → IsRowOf fs a → IsRowOf fs b → bytes_eq (row_spelling fs a) (row_spelling fs b) ≡ tuple_eq a b
 same_bytes fs a b ha hb = same_from_decides (bytes_eq (row_spelling fs a) (row_spelling fs b)) (tuple_eq a b) by_bytes (tuple_eq-Decides a b)
   where
     by_bytes : Decides (bytes_eq (row_spelling fs a) (row_spelling fs b)) (a ≡ b)
@@ -55,10 +55,3 @@ module _ (q : Query) (rows : List Row) (fit : Each (HasGroup q) rows) where
   distinct_bytes =
       ap (distinct bytes_eq) (sym (map-map (row_spelling (group_fields q)) (group_key q) rows))
       ∙ distinct-map tuple_eq bytes_eq (IsRowOf (group_fields q)) (row_spelling (group_fields q)) (same_bytes (group_fields q)) [] (map (group_key q) rows) tt keys_fit
-
-  -- the rows whose bytes spell a key are the members of its group
-  pub members_keyed : (key : List Leaf) → IsRowOf (group_fields q) key → filter (λ row. bytes_eq row.key (row_spelling (group_fields q) key)) (map (keyed_row q) rows) ≡ map (keyed_row q) (members_of q rows key)
-  members_keyed key h =
-      filter-map (λ (row : KeyedRow). bytes_eq row.key (row_spelling (group_fields q) key)) (keyed_row q) rows
-      ∙ ap (map (keyed_row q)) (filter_same (λ row. bytes_eq (group_bytes q row) (row_spelling (group_fields q) key)) (λ row. tuple_eq (group_key q row) key) rows
-      (Each-weaker (HasGroup q) _ rows (λ row r. same_bytes (group_fields q) (group_key q row) key r h) fit))

@@ -58,3 +58,7 @@ module _ (q : Query) (h : unknown_column q ≡ None) where
 
   pub reductions_known : All (λ (r : Reduction). IsKnown q r.column) q.reductions
   reductions_known = all_known q (λ (r : Reduction). r.column) q.reductions (sym (list_any-map (is_unknown q) (λ (r : Reduction). r.column) q.reductions) ∙ halves.1)
+
+-- what holds of each item holds of one that was read
+pub at_item : {X : Type 0} (P : X → Type 0) (xs ys : List X) (i : ℕ) (x : X) → All P xs → ys ≡ xs → i < length ys → x ≡ get_or ys i x → P x
+at_item P xs ys i x h e l r = subst P (sym r) (subst (All P) (sym e) h i x l)

@@ -21,7 +21,7 @@ use Rattle.group_locals.proofs.Fresh.{locals_fresh}
 use Rattle.group_locals.proofs.Ranges.{range_other}
 use Rattle.join_groups.specs.Keyed.{HasGroup, grouping_of_query, keyed_row}
 use Rattle.join_groups.specs.History.{HaveTaken, keyed_morsels}
-use Rattle.join_groups.proofs.Morsels.{before, block_is, blocks_before, first_at, morsel_at}
+use Rattle.join_groups.proofs.KeyedMorsels.{before, block_is, blocks_before, first_at, morsel_at}
 
 length-changed_at : {X : Type 0} (P : X → X → Type 0) (i : ℕ) (xs ys : List X) → ChangedAt P i xs ys → length ys ≡ length xs
 length-changed_at P i [] ys h = absurd h

@@ -8,7 +8,7 @@ ghost use Rattle.join_model.specs.Refusals.{unknown_column};
 ghost use Rattle.join_groups.specs.Keyed.{HasGroup, IsKnown, group_bytes, group_fields, plan_state};
 
 use crate::names::ref_name;
-use col_core::{Field, Frame, Schema};
+use col_core::{Field, Frame};
 use hash_keys::HashKeys;
 use join_query::{ColumnRef, Query, Side};
 use key_parts::PlRandomState;
@@ -16,8 +16,8 @@ use query_check::ref_type;
 use std::alloc::{AllocError, Global};
 
 /// The fields of a query's group keys.
-pub(crate) fn group_fields(alloc: Global, query: &Query) -> Result<Schema, AllocError>
-    ensures { IfOk result (λ s. s ≡ group_fields query.now) }
+pub(crate) fn group_fields(alloc: Global, query: &Query) -> Result<Vec<Field>, AllocError>
+    ensures { IfOk result (λ fields. fields.items ≡ group_fields query.now) }
 {
     let mut fields = Vec::with_capacity(alloc, query.group_keys.len())?;
     for column in query.group_keys.as_slice() {
@@ -26,7 +26,7 @@ pub(crate) fn group_fields(alloc: Global, query: &Query) -> Result<Schema, Alloc
             dtype: ref_type(query, column),
         })?;
     }
-    Ok(Schema::from_fields(fields))
+    Ok(fields)
 }
 
 /// The state that a query's group keys are hashed under.

@@ -1,18 +1,19 @@
 //! Groups as a table.
-ghost use Rattle.std.specs.Prelude.{◌≡◌, ◌<◌, ◌++◌, map, length, IfOk};
+ghost use Rattle.std.specs.Prelude.{◌≡◌, ◌<◌, ◌++◌, None, map, length, IfOk};
 ghost use Rattle.std.specs.List.{All};
+ghost use Rattle.col_core.specs.Refusals.{frame_refusal, height_of};
 ghost use Rattle.col_core.specs.Tables.{header, rows_at, rows_from, values_of};
 ghost use Rattle.row_code.specs.Spelling.{IsRowOf, row_spelling};
-ghost use Rattle.join_model.specs.Answers.{reduction_field};
+ghost use Rattle.join_model.specs.Answers.{group_schema, reduction_field};
 ghost use Rattle.join_groups.specs.Keyed.{group_fields};
 ghost use Rattle.join_groups.specs.Merged.{AreGroupRows};
 
+use crate::keys::group_fields;
 use crate::names::reduction_name;
-use col_core::{Frame, IdxSize, List, Series};
+use col_core::{Field, Frame, FrameError, IdxSize, List, Schema, Series};
 use group_locals::Groups;
 use join_query::Query;
 use key_groups::{Grouper, RowEncodedHashGrouper};
-use pair_rows::frame_of_columns;
 use std::alloc::{AllocError, Global};
 
 /// The tuples that the keys of a grouper spell, in the order of the keys.
@@ -45,38 +46,51 @@ fn ordered_columns(
     Ok(columns)
 }
 
-/// Columns, and then what the reductions give, each under its reduction's name.
-fn with_reductions(
-    alloc: Global,
-    query: &Query,
-    mut columns: Vec<Series>,
-    given: List<Series>,
-) -> Result<Vec<Series>, AllocError>
-    requires types { map (λ c. c.dtype) given
+/// The schema of groups: their keys, and then the reductions with the types of what they give.
+fn group_schema(alloc: Global, query: &Query, given: &[Series]) -> Result<Schema, AllocError>
+    requires { map (λ c. c.dtype) given.now
         ≡ map (λ r. (reduction_field query.now r).dtype) query.now.reductions }
-    ensures headers { IfOk result (λ v. map header v.items
-        ≡ map header columns.items ++ map (reduction_field query.now) query.now.reductions) }
-    ensures values { IfOk result (λ v.
-        values_of v.items ≡ values_of columns.items ++ values_of given) }
+    ensures { IfOk result (λ schema. schema ≡ group_schema query.now) }
 {
-    let mut given = given.into_vec().into_iter();
-    for reduction in query.reductions.as_slice() {
-        match given.next() {
-            Some(column) => {
-                columns.push(column.with_name(reduction_name(alloc, reduction)?))?;
-            }
-            None => unreachable!(),
-        }
+    let mut fields = group_fields(alloc, query)?;
+    for (r, reduction) in query.reductions.as_slice().iter().enumerate() {
+        fields.push(Field {
+            name: reduction_name(alloc, reduction)?,
+            dtype: given[r].dtype(),
+        })?;
+    }
+    Ok(Schema::from_fields(fields))
+}
+
+/// Columns, and then other columns.
+fn joined_columns(mut columns: Vec<Series>, more: List<Series>) -> Result<Vec<Series>, AllocError>
+    ensures { IfOk result (λ v. v.items ≡ columns.items ++ more) }
+{
+    for column in more.into_vec() {
+        columns.push(column)?;
     }
     Ok(columns)
 }
 
+/// A frame of columns under a schema that fits them.
+fn frame_under(alloc: Global, schema: Schema, columns: Vec<Series>) -> Result<Frame, AllocError>
+    requires { frame_refusal schema columns.items ≡ None }
+    ensures { IfOk result
+        (λ f. f ≡ record {
+          schema = schema;
+          rows = rows_from (height_of columns.items) (values_of columns.items);
+        }) }
+{
+    match Frame::new(alloc, schema, columns) {
+        Ok(frame) => Ok(frame),
+        Err(FrameError::Memory) => Err(AllocError),
+        Err(_) => unreachable!(),
+    }
+}
+
 /// Groups as a table: the tuples of their keys, and then what the reductions give.
-pub(crate) fn group_rows(
-    alloc: Global,
-    query: &Query,
-    groups: Groups,
-) -> Result<Frame, AllocError>
+pub(crate) fn group_rows(alloc: Global, query: &Query, groups: Groups) -> Result<Frame, AllocError>
+    requires some { 0 < length query.now.group_keys }
     requires schema { groups.grouper.schema ≡ group_fields query.now }
     requires order { All (λ i. i < length groups.grouper.keys) groups.order }
     requires types { map (λ c. c.dtype) groups.columns
@@ -89,8 +103,8 @@ pub(crate) fn group_rows(
         order,
         columns: given,
     } = groups;
+    let schema = group_schema(alloc, query, given.as_slice())?;
     let keys = key_rows(alloc, &grouper)?;
     let columns = ordered_columns(alloc, &keys, order.as_slice())?;
-    let columns = with_reductions(alloc, query, columns, given)?;
-    frame_of_columns(alloc, columns, order.len())
+    frame_under(alloc, schema, joined_columns(columns, given)?)
 }
