@@ -62,7 +62,6 @@ one_mask (Some a) now n x h = let same : a ≡ x = cc in sym (ap now same)
 module _ {S E V A : Type 0} (values_of : S → List Leaf) (r : Result S E) (stands : V → State → Type 0) (tells : Bool) (given : V → Leaf) (vs : List V) (m : Option A) (now : A → List Bool)
     (some : (v : V) (e : Entry) → stands v (Some e) → given v ≡ e.value) (none : (v : V) → tells ≡ true → stands v None → given v ≡ leaves.Null)
     (values : (bits : List Bool) → MatchOption m (bits ≡ all_shown (length vs)) (λ a. bits ≡ now a) → IfOk r (λ s. values_of s ≡ shown_values (map given vs) bits)) where
-
   of_bits : (bits : List Bool) → length bits ≡ length vs → MatchOption m (bits ≡ all_shown (length vs)) (λ a. bits ≡ now a) → IfOk r (λ s. AllZip (IsFinished stands tells) (zip vs bits) (values_of s))
   of_bits bits long is = IfOk-weaker r (λ s. values_of s ≡ shown_values (map given vs) bits) (λ s. AllZip (IsFinished stands tells) (zip vs bits) (values_of s))
       (λ s e. subst (AllZip (IsFinished stands tells) (zip vs bits)) (sym e) (finished stands tells given vs bits some none long)) (values bits is)

@@ -127,7 +127,7 @@ pub all_by_one : {V : Type 0} (stands : V → State → Type 0) (k : ReductionKi
 unfolding TakesOne TakesAll
 all_by_one stands k seq_id i vs old new g h e one_taken = λ t n x f s.
     let place : merge k t x (one k t (record { number = n; value = value_at vs i })) ≡ after k t x (numbered n vs) =
-        ap (λ (j : ℕ). merge k t x (one k t (record { number = n; value = value_at vs j }))) e ∙ sym (after_numbered k t n x vs g h) in
+    ap (λ (j : ℕ). merge k t x (one k t (record { number = n; value = value_at vs j }))) e ∙ sym (after_numbered k t n x vs g h) in
     subst (stands new) place (one_taken t n x f s)
 
 pub after_nothing : (k : ReductionKind) (t : DataType) (n : ℕ) (x : State) (vs : List Leaf) → length vs ≡ 0 → after k t x (numbered n vs) ≡ x

@@ -3,7 +3,7 @@ use crate::kept::{Numbered, replaces};
 use crate::policy::Policy;
 use col_core::{Blob, DataType, LeafRef, MutableBitmap, Series};
 use group_reduce::Reducer;
-use kept_values::{GivesValues, finished_column, lend_bytes, bytes_of};
+use kept_values::{GivesValues, bytes_of, finished_column, lend_bytes};
 use std::alloc::{AllocError, Global};
 use std::marker::PhantomData;
 

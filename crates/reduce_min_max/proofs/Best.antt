@@ -107,7 +107,7 @@ after_merged k t n x vs s =
     after-is k t x (numbered n vs) (IsState-plain k t x none)
     ∙ ap (merge k t x) (ap (λ (y : State). after k t y (numbered n vs)) none ∙ after_best k t n leaves.Null vs s ∙ ap present (sym (fold_of_best k t vs s)))
 
-out-present : (v : Leaf) → out (present v) ≡ v
+pub out-present : (v : Leaf) → out (present v) ≡ v
 out-present leaves.Null = refl
 out-present (leaves.Bool b) = refl
 out-present (leaves.Whole z) = refl
@@ -118,11 +118,11 @@ pub fold_of-append : (k : ReductionKind) (t : DataType) (vs ws : List Leaf) → 
     → fold_of k t (vs ++ ws) ≡ better (order_of k) (fold_of k t vs) (fold_of k t ws)
 fold_of-append k t vs ws s =
     let both : present (fold_of k t (vs ++ ws)) ≡ present (better (order_of k) (fold_of k t vs) (fold_of k t ws)) =
-        sym (after_merged k t 0 None (vs ++ ws) s) ∙ ap (after k t None) (map-append (λ (v : Leaf). record { number = 0; value = v }) vs ws)
-        ∙ fold-append (λ x e. merge k t x (one k t e)) None (numbered 0 vs) (numbered 0 ws)
-        ∙ after_merged k t 0 (after k t None (numbered 0 vs)) ws s
-        ∙ ap (λ (x : State). merge k t x (present (fold_of k t ws))) (after_merged k t 0 None vs s)
-        ∙ merged_present k t (fold_of k t vs) (fold_of k t ws) s in
+    sym (after_merged k t 0 None (vs ++ ws) s) ∙ ap (after k t None) (map-append (λ (v : Leaf). record { number = 0; value = v }) vs ws)
+    ∙ fold-append (λ x e. merge k t x (one k t e)) None (numbered 0 vs) (numbered 0 ws)
+    ∙ after_merged k t 0 (after k t None (numbered 0 vs)) ws s
+    ∙ ap (λ (x : State). merge k t x (present (fold_of k t ws))) (after_merged k t 0 None vs s)
+    ∙ merged_present k t (fold_of k t vs) (fold_of k t ws) s in
     sym (out-present (fold_of k t (vs ++ ws))) ∙ ap out both ∙ out-present (better (order_of k) (fold_of k t vs) (fold_of k t ws))
 
 -- a null changes nothing

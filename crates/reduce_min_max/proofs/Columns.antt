@@ -37,7 +37,6 @@ missing_second k value (Some x) b p = rw p refl
 -- the best of the chunks so far and of the next
 module _ {T : Type 0} (k : ReductionKind) (t : DataType) (value : T → ℤ) (cs : List Chunk) (i : ℕ) (c : Chunk) (best next : Option T) (skips : skips_nulls k ≡ true)
     (inside : i < length cs) (here : c ≡ get_or cs i c) (so_far : number_or_null value best ≡ fold_of k t (leaves_of (take i cs))) (of_next : number_or_null value next ≡ fold_of k t (chunk_leaves c)) where
-
   joined : better (order_of k) (number_or_null value best) (number_or_null value next) ≡ fold_of k t (leaves_of (take (i + 1) cs))
   joined = ap₂ (better (order_of k)) so_far of_next ∙ sym (fold_of-append k t (leaves_of (take i cs)) (chunk_leaves c) skips) ∙ ap (fold_of k t) (sym (leaves_more cs i c inside here))
 

@@ -36,6 +36,11 @@ item_bytes (item ∷ items) (suc i) h = item_bytes items i (omega arith)
 pub fold_more : (f : Leaf → Leaf → Leaf) (v : Leaf) (vs : List Leaf) (i : ℕ) → i < length vs → fold f v (take (i + 1) vs) ≡ f (fold f v (take i vs)) (value_at vs i)
 fold_more f v vs i h = ap (fold f v) (take_more vs i leaves.Null h) ∙ fold-append f v (take i vs) (value_at vs i ∷ [])
 
+pub fold_of_more : (k : ReductionKind) (t : DataType) (vs : List Leaf) (i : ℕ) → skips_nulls k ≡ true → i < length vs → fold_of k t (take (i + 1) vs) ≡ better (order_of k) (fold_of k t (take i vs)) (value_at vs i)
+fold_of_more k t vs i s h =
+    let f = better (order_of k) in
+    fold_of_best k t (take (i + 1) vs) s ∙ fold_more f leaves.Null vs i h ∙ ap (λ (v : Leaf). f v (value_at vs i)) (sym (fold_of_best k t (take i vs) s))
+
 -- the values of one chunk more
 pub chunk_more : (k : ReductionKind) (t : DataType) (cs : List Chunk) (i : ℕ) (c : Chunk) (before after : Leaf) → skips_nulls k ≡ true → i < length cs → c ≡ get_or cs i c
     → before ≡ fold_of k t (leaves_of (take i cs)) → after ≡ fold (better (order_of k)) before (chunk_leaves c) → after ≡ fold_of k t (leaves_of (take (i + 1) cs))

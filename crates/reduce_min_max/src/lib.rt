@@ -7,8 +7,11 @@ mod bytes;
 mod numbers;
 mod numeric;
 mod side;
+mod truth_groups;
+mod truths;
 
 pub use bytes::{BinaryMaxReducer, BinaryMinReducer, BinaryReducer};
 pub use numbers::NumReducer;
 pub use numeric::{Max, Min, NumericReduction};
 pub use side::{Greatest, Least, Side};
+pub use truth_groups::{BoolGroupedReduction, BoolMaxGroupedReduction, BoolMinGroupedReduction};

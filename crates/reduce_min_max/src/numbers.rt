@@ -6,7 +6,7 @@ ghost use Rattle.reduce_min_max.specs.Best.{IsBestSoFar};
 use crate::numeric::NumericReduction;
 use col_core::{DataType, LeafRef, MutableBitmap, Native, Series};
 use group_reduce::Reducer;
-use kept_values::{GivesValues, finished_column, number_of, lend_number};
+use kept_values::{GivesValues, finished_column, lend_number, number_of};
 use std::alloc::{AllocError, Global};
 use std::marker::PhantomData;
 

@@ -1,8 +1,7 @@
-use Rattle.std.proofs.Common.{ap, sym, subst, ◌∙◌, option_copied, fold, arith}
-use Rattle.std.specs.List.{All}
+use Rattle.std.proofs.Common.{ap, sym, ◌∙◌, option_copied, fold, arith}
 use Rattle.std.proofs.lemmas.List.{take_all}
-use Rattle.col_core.specs.Tables.{leaves_of, chunk_leaves}
-use Rattle.col_core.specs.Values.{Fits, is_text}
+use Rattle.col_core.specs.Tables.{leaves_of}
+use Rattle.col_core.specs.Values.{is_text}
 use Rattle.reduce_model.specs.Folds.{fold_of, better}
 use Rattle.kept_values.specs.Kept.{bytes_or_null}
 use Rattle.reduce_min_max.specs.Best.{order_of}

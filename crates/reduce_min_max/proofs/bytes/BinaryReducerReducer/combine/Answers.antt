@@ -1,12 +1,10 @@
-use Rattle.std.proofs.Common.{None, ap, sym, ◌∙◌}
+use Rattle.std.proofs.Common.{ap, sym, ◌∙◌}
 use Rattle.std.proofs.lemmas.Result.{on_ok_weaker}
 use Rattle.col_core.specs.declared.leaf.Leaf.TheVariants as leaves
-use Rattle.reduce_model.specs.Folds.{better}
-use Rattle.reduce_states.specs.States.{present, merge, State}
+use Rattle.reduce_states.specs.States.{present, merge}
 use Rattle.reduce_states.proofs.Merged.{merge-none}
 use Rattle.group_reduce.specs.Reducing.{Merges}
 use Rattle.kept_values.specs.Kept.{bytes_or_null}
-use Rattle.reduce_min_max.specs.Best.{order_of}
 use Rattle.reduce_min_max.proofs.Best.{entered}
 use Rattle.reduce_min_max.proofs.bytes.BinaryReducerReducer.combine.Goals as goal
 

@@ -1,9 +1,8 @@
-use Rattle.std.proofs.Common.{None, ap, sym, ◌∙◌, option_copied}
+use Rattle.std.proofs.Common.{ap, sym, ◌∙◌, option_copied}
 use Rattle.std.proofs.lemmas.Result.{on_ok_weaker}
 use Rattle.col_core.specs.declared.leaf.Leaf.TheVariants as leaves
 use Rattle.reduce_model.specs.Folds.{fold_of}
-use Rattle.reduce_states.specs.States.{present, merge}
-use Rattle.reduce_states.proofs.Merged.{merge-none}
+use Rattle.reduce_states.specs.States.{present}
 use Rattle.group_reduce.specs.Reducing.{TakesAll}
 use Rattle.kept_values.specs.Kept.{bytes_or_null}
 use Rattle.reduce_min_max.proofs.Best.{entered, after_merged, merge-null}
@@ -19,8 +18,8 @@ returns-in-Some-clause-ok g c =
     let w = leaves.Bytes c.in-Some.bytes.now in
     let skips = g.met.S.Side.kind_law in
     on_ok_weaker c.enter.result (λ e t n x f h.
-        let best = sym (c.best_of_column.ensures.best t) ∙ ap (λ r. bytes_or_null (option_copied r)) c.in-Some.is in
-        after_merged k t n x vs skips ∙ entered k t x (present (fold_of k t vs)) old w new skips h (ap present best) e) c.enter.ensures.ok
+    let best = sym (c.best_of_column.ensures.best t) ∙ ap (λ r. bytes_or_null (option_copied r)) c.in-Some.is in
+    after_merged k t n x vs skips ∙ entered k t x (present (fold_of k t vs)) old w new skips h (ap present best) e) c.enter.ensures.ok
 
 pub returns-in-None-clause-ok : goal.returns-in-None-clause-ok
 unfolding TakesAll

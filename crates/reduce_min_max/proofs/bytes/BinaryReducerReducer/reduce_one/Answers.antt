@@ -1,10 +1,10 @@
-use Rattle.std.proofs.Common.{◌≡◌, ap, sym, ◌∙◌}
+use Rattle.std.proofs.Common.{ap, sym, ◌∙◌}
 use Rattle.std.proofs.lemmas.Result.{on_ok_weaker}
 use Rattle.col_core.specs.declared.data_type.PhysicalType.TheVariants as kept
 use Rattle.col_core.specs.declared.leaf.Leaf.TheVariants as leaves
 use Rattle.col_core.specs.Lent.{lent_leaf}
 use Rattle.col_core.specs.Values.{is_text}
-use Rattle.reduce_states.specs.States.{one, present, merge}
+use Rattle.reduce_states.specs.States.{one, present}
 use Rattle.group_reduce.specs.Reducing.{TakesOne}
 use Rattle.kept_values.specs.Kept.{bytes_or_null}
 use Rattle.kept_values.proofs.Types.{fits_kept_as, fits_text}

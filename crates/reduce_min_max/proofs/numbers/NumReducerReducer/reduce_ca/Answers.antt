@@ -14,7 +14,7 @@ returns-in-Some-clause-ok g c = λ t n x e h.
     let value = g.R.Elem.Number.value in
     let vs = c.args.ca.now.values in
     let best : present (fold_of k t vs) ≡ present (number_or_null value (Some c.in-Some.best)) =
-        ap present (sym (c.reduce_ca.ensures t) ∙ ap (number_or_null value) c.in-Some.is) in
+    ap present (sym (c.reduce_ca.ensures t) ∙ ap (number_or_null value) c.in-Some.is) in
     subst (IsBestSoFar g.R.NumericReduction.start (value c.enter.new.kept)) (sym (after_merged k t n x vs g.met.R.NumericReduction.kind_law)) (c.enter.ensures t x (present (fold_of k t vs)) h (inl best))
 
 pub returns-in_default-clause-ok : goal.returns-in_default-clause-ok

@@ -15,7 +15,7 @@ returns-in-Some-clause-ok g c = λ t n x e h.
     let value = g.R.Elem.Number.value in
     let leaf = lent_leaf c.args.b in
     let entered : one k t (record { number = n; value = leaf }) ≡ present (number_or_null value (Some c.in-Some.number)) =
-        one_present k t n leaf g.met.R.NumericReduction.kind_law ∙ ap present (sym c.number_of.ensures ∙ ap (number_or_null value) c.in-Some.is) in
+    one_present k t n leaf g.met.R.NumericReduction.kind_law ∙ ap present (sym c.number_of.ensures ∙ ap (number_or_null value) c.in-Some.is) in
     c.enter.ensures t x (one k t (record { number = n; value = leaf })) h (inl entered)
 
 pub returns-in_default-clause-ok : goal.returns-in_default-clause-ok
