@@ -3,9 +3,9 @@
 
 mod adding;
 mod any_sum;
-mod types;
 mod sums;
+mod types;
 
 pub use any_sum::{AnySum, has_sum};
-pub use types::SumType;
 pub use sums::{SumReduce, sum_type};
+pub use types::SumType;

@@ -1,0 +1,4 @@
+pub mod Best
+pub mod BestLaws
+pub mod Truths
+pub mod TruthLaws
