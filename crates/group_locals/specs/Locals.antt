@@ -6,7 +6,8 @@ use Rattle.col_core.specs.Tables.{Column}
 use Rattle.key_parts.specs.declared.hash.PlRandomState.{PlRandomState}
 use Rattle.hash_keys.specs.declared.keys.HashKeys.{HashKeys}
 use Rattle.hash_keys.specs.Views.{keys_of, state_of}
-use Rattle.key_groups.specs.Groups.{KeyGroups, with_keys}
+use Rattle.key_groups.specs.Groups.{KeyGroups, bytes_of, with_keys}
+use Rattle.row_code.specs.Spelling.{IsSpelling}
 use Rattle.reduce_states.specs.States.{State}
 use Rattle.reduce_states.specs.Reductions.{Shape}
 use Rattle.list_laws.specs.Each.{Each}
@@ -60,9 +61,10 @@ pub record LocalsFit {R : Type 0} (shape : R → Shape) (of : Grouping) (locals 
 abbrev pub AreFresh : ℕ → ℕ → List (List ℕ × ℕ) → Type 0
 AreFresh first count ps = Each (λ p. (p.1 < first) ⊎ (first + count ≤ p.1)) ps
 
--- keys, none of them null, and columns that can enter the local states of a grouping
+-- keys, none of them null, that spell rows of the key schema, and columns that can enter the local states of a grouping
 pub record RowsFit (of : Grouping) (keys : HashKeys) (columns : List Column) : Type 0 where
   pub present : All (λ k. is_some k ≡ true) (keys_of keys)
+  pub spelled : All (IsSpelling of.schema) (bytes_of (keys_of keys))
   pub state_is : state_of keys ≡ of.state
   pub types_are : map (λ c. c.dtype) columns ≡ map (λ s. s.dtype) of.shapes
   pub heights : Each (λ c. length c.values ≡ length (keys_of keys)) columns

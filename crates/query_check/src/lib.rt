@@ -10,3 +10,4 @@ mod columns;
 mod schemas;
 
 pub use check::check_query;
+pub use columns::ref_type;

@@ -1,11 +1,17 @@
-use Rattle.std.proofs.Common.{[], length, unwrap_or, ◌∙◌, arith}
+use Rattle.std.proofs.Common.{ℕ, List, [], length, unwrap_or, sym, subst, ◌∙◌, arith}
+use Rattle.std.specs.List.{All}
 use Rattle.std.proofs.lemmas.List.{length-map}
+use Rattle.col_core.specs.declared.schema.Field.{Field}
+use Rattle.row_code.specs.Spelling.{IsSpelling}
 use Rattle.hash_keys.specs.Views.{keys_of}
 use Rattle.key_groups.specs.Groups.{bytes_of}
 use Rattle.group_locals.proofs.Calls.{on_ok}
 use Rattle.group_locals.proofs.Fits.{inside_of, length-came, more_came}
 use Rattle.group_locals.proofs.Takes.{lent_heights, lent_types, local_takes_from}
 use Rattle.group_locals.proofs.local.LocalState.take_rows.Goals as goal
+
+pub insert_keys-requires-clause-spelled : goal.insert_keys-requires-clause-spelled
+insert_keys-requires-clause-spelled g c = subst (λ (schema : List Field). All (IsSpelling schema) (bytes_of (keys_of c.args.keys))) (sym c.requires.fits.1.is_of.schema_is) c.requires.fits.2.spelled
 
 pub note_rows-requires-clause-more : goal.note_rows-requires-clause-more
 note_rows-requires-clause-more g c =

@@ -1,0 +1,10 @@
+pub mod Known
+pub mod Fields
+pub mod Spelled
+pub mod GroupTable
+pub mod MorselRows
+pub mod KeyBytes
+pub mod GroupRows
+pub mod KeyedMorsels
+pub mod Taken
+pub mod Answer

@@ -1,0 +1,3 @@
+pub mod Keyed
+pub mod Merged
+pub mod History
