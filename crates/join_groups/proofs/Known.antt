@@ -25,7 +25,7 @@ no_position p (x ∷ xs) = elim (cases_Bool (p x)) [
   ]
 ]
 
-none_passes : {X : Type 0} (p : X → Bool) (xs : List X) → position p xs ≡ None → list_any p xs ≡ false
+pub none_passes : {X : Type 0} (p : X → Bool) (xs : List X) → position p xs ≡ None → list_any p xs ≡ false
 none_passes p xs h = elim (no_position p xs) [
   | inl less ↦
       let inside : nat_lt (position_or_len p xs) (length xs) ≡ true = lt-ltb _ _ less in

@@ -8,3 +8,4 @@ pub mod GroupRows
 pub mod KeyedMorsels
 pub mod Taken
 pub mod Answer
+pub mod Sums

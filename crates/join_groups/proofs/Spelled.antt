@@ -39,4 +39,3 @@ module _ (schema : List Field) (keys : List (List ℕ)) (t : Table) (spelled : A
 
   pub decoded_spelled : keys ≡ map (row_spelling schema) t.rows
   decoded_spelled = rows.same ∙ sym (ap (λ (t : Table). map (row_spelling schema) t.rows) table_is)
-

@@ -69,11 +69,7 @@ fn group_places(alloc: Global, query: &Query, rows: &Frame) -> Result<Vec<usize>
 
 /// The group keys of joined rows, hashed under the plan's seed and mask. A null is a value like any
 /// other, so no key is null.
-pub(crate) fn group_keys(
-    alloc: Global,
-    query: &Query,
-    rows: &Frame,
-) -> Result<HashKeys, AllocError>
+pub(crate) fn group_keys(alloc: Global, query: &Query, rows: &Frame) -> Result<HashKeys, AllocError>
     requires known { unknown_column query.now ≡ None }
     requires joined { rows.now.schema ≡ joined_schema query.now }
     requires few { length rows.now.rows < 2 ^ 32 }

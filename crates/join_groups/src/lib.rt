@@ -3,11 +3,13 @@
 
 mod columns;
 mod keys;
+mod locals;
 mod merge;
 mod morsels;
 mod names;
 mod table;
 
 pub use group_locals::LocalState;
+pub use locals::new_locals;
 pub use merge::{Merged, merge_groups};
 pub use morsels::group_morsel;

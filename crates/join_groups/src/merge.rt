@@ -43,8 +43,7 @@ pub fn merge_groups<L: Ledger>(
     ensures groupers { IfOk result (λ m. m.locals ≡ map (λ l. l.grouper) locals.items) }
     ensures cost { steps.new ≤ steps.old + length (keys_in locals.items) }
 {
-    let group_locals::Merged { groups, locals } =
-        group_locals::merge_groups(alloc, locals, steps)?;
+    let group_locals::Merged { groups, locals } = group_locals::merge_groups(alloc, locals, steps)?;
     let groups = group_rows(alloc, query, groups)?;
     Ok(Merged { groups, locals })
 }
