@@ -9,3 +9,5 @@ pub mod KeyedMorsels
 pub mod Taken
 pub mod Answer
 pub mod Sums
+pub mod InOrder
+pub mod WholeOrders

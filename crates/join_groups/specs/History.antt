@@ -1,7 +1,7 @@
 -- Local states that have taken morsels of joined rows.
 use Rattle.std.specs.Prelude.{◌≡◌, ℕ, List, [], map, flat_map, length, slice_index_or}
 use Rattle.std.specs.List.{range_with_len}
-use Rattle.col_core.specs.Tables.{Row}
+use Rattle.col_core.specs.Tables.{Row, Table}
 use Rattle.row_code.specs.Spelling.{row_spelling}
 use Rattle.reduce_states.specs.States.{State}
 use Rattle.reduce_states.specs.Reductions.{Shape}
@@ -19,6 +19,10 @@ use Rattle.join_groups.specs.Keyed.{HasGroup, group_fields, grouping_of_query, k
 -- morsels of rows as local states take them
 abbrev pub keyed_morsels : Query → List (List Row) → List (List KeyedRow)
 keyed_morsels q ms = map (map (keyed_row q)) ms
+
+-- the rows of each morsel
+abbrev pub rows_of_each : List Table → List (List Row)
+rows_of_each morsels = map (λ m. m.rows) morsels
 
 -- the rows of some morsels, in an order
 abbrev pub rows_in : List (List Row) → List ℕ → List Row
