@@ -1,0 +1,3 @@
+pub mod AnyFirstLasts
+pub mod AnyFirsts
+pub mod AnyLasts

@@ -1,0 +1,3 @@
+pub mod KeptBests
+pub mod AnyMins
+pub mod AnyMaxes
