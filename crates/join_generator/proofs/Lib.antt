@@ -1,0 +1,5 @@
+pub mod Drawn
+pub mod Rows
+pub mod Counted
+pub mod Short
+pub mod Words
