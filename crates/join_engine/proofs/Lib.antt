@@ -1,6 +1,7 @@
+pub mod Cuts
+pub mod MorselRows
 pub mod Fronts
 pub mod Mapped
 pub mod Listed
-pub mod Grouped
-pub mod GroupRows
+pub mod Morsels
 pub mod Parts

@@ -1,6 +1,7 @@
--- A result whose error has been mapped.
-use Rattle.std.proofs.Common.{◌≡◌, Ok, Err, sym, ap, ◌∙◌, subst, refl}
+-- What holds where a call went well, and of a result whose error has been mapped.
+use Rattle.std.proofs.Common.{◌≡◌, ℕ, Ok, Err, List, sym, ap, ◌∙◌, subst, refl}
 use Rattle.std.specs.Prelude.{IsErrAnd, MatchResult, OnOk, Result}
+use Rattle.list_laws.specs.Places.{ChangedAt}
 
 module _ {T E D : Type 0} (post : E → D → Type 0) (after : Result T D) where
   -- a value was there before
@@ -19,3 +20,7 @@ module _ {T E D : Type 0} (post : E → D → Type 0) (after : Result T D) where
 -- what holds of a call that went well
 pub went_well : {T E P : Type 0} (r : Result T E) (x : T) → r ≡ Ok x → OnOk r P → P
 went_well {P = P} r x is h = subst (λ r. OnOk r P) is h
+
+-- and of what it changed
+pub changed_well : {X T E : Type 0} (P : X → X → Type 0) (i : ℕ) (xs ys : List X) (r : Result T E) (x : T) → r ≡ Ok x → ChangedAt (λ l m. OnOk r (P l m)) i xs ys → ChangedAt P i xs ys
+changed_well P i xs ys r x is h = subst (λ r. ChangedAt (λ l m. OnOk r (P l m)) i xs ys) is h

@@ -1,23 +1,21 @@
 -- What a query has for which there is no refusal before its rows are read.
-use Rattle.std.proofs.Common.{◌≡◌, ℕ, Bool, true, false, ◌||◌, not, List, [], ◌∷◌, Option, Some, None, is_some, refl, sym, arith}
-use Rattle.std.specs.Option.{option_map, option_map_or}
+use Rattle.std.proofs.Common.{◌≡◌, ℕ, Bool, true, false, ◌||◌, not, List, [], ◌∷◌, Option, Some, None, refl}
+use Rattle.std.specs.List.{All}
+use Rattle.std.specs.Option.{option_map}
 use Rattle.std.proofs.lemmas.Bool.{false≢true}
 use Rattle.std.proofs.lemmas.List.Elements.{All-cons, All-nil}
-use Rattle.list_laws.proofs.Halves.{neither, not-false}
+use Rattle.list_laws.proofs.Halves.{both, neither, not-false}
 use Rattle.col_core.specs.declared.schema.Field.{Field}
-use Rattle.col_core.specs.declared.data_type.DataType.{DataType}
-use Rattle.col_core.specs.declared.data_type.DataType.TheVariants.{Binary}
-use Rattle.col_core.specs.Schemas.{type_named, schema_eq}
+use Rattle.col_core.specs.Schemas.{schema_eq}
 use Rattle.col_core.specs.Tables.{Table}
 use Rattle.col_core.proofs.Equalities.{schema_eq-Decides}
 use Rattle.join_query.specs.declared.error.QueryError.{QueryError}
 use Rattle.join_query.specs.declared.error.QueryError.TheVariants.{NoKeyColumns, UnknownColumn, SchemaMismatch, UnsupportedReduction, UnsupportedFilter, BadPlan, TooLarge, NotBuilt}
 use Rattle.join_query.specs.declared.query.Query.{Query}
-use Rattle.join_query.specs.declared.query.ColumnRef.{ColumnRef}
-use Rattle.join_model.specs.Refusals.{have_same_types, has_mixed_filter, is_empty, lacks_keys, unknown_column, repeats_name, has_other_frame, schemas_differ, unsupported_reduction, filter_is_unsupported, is_good_plan, is_group_type, is_group_not_built, is_one_sum, is_not_built, is_too_large, when, first_of, checked_refusal}
-use Rattle.join_model.specs.ColumnRefs.{schema_of}
+use Rattle.join_query.specs.declared.query.Reduction.{Reduction}
+use Rattle.join_model.specs.Refusals.{have_same_types, has_mixed_filter, lacks_keys, unknown_column, repeats_name, has_other_frame, schemas_differ, unsupported_reduction, filter_is_unsupported, is_good_plan, is_group_not_built, is_int64, is_one_sum, is_sum, is_not_built, is_too_large, when, first_of, checked_refusal}
+use Rattle.join_model.specs.ColumnRefs.{ref_type}
 use Rattle.join_probes.specs.Keys.{AllHave}
-use Rattle.join_engine.specs.Totals.{is_one_column}
 use Rattle.join_engine.specs.Listed.{CanAnswer}
 
 -- no frame of another schema: each has the schema
@@ -27,21 +25,16 @@ all_have schema (t ∷ frames) h =
     let halves = neither (not (schema_eq t.schema schema)) (has_other_frame schema frames) h in
     All-cons (λ (x : Table). x.schema ≡ schema) t frames ((schema_eq-Decides t.schema schema).0 (not-false (schema_eq t.schema schema) halves.0)) (all_have schema frames halves.1)
 
--- a column whose type is none that stands for a missing column
-known_group : (o : Option DataType) → (not (is_group_type (option_map_or (λ t. t) o Binary)) || false) ≡ false → is_some o ≡ true
-known_group None h = absurd (false≢true (sym h))
-known_group (Some t) h = refl
-
--- a group key that is not empty, and is built
-one_column : (q : Query) (refs : List ColumnRef) → is_empty refs ≡ false → is_group_not_built q refs ≡ false → is_one_column q refs ≡ true
-one_column q [] e h = absurd (false≢true (sym e))
-one_column q (g ∷ []) e h = known_group (type_named g.name (schema_of q g.side)) h
-one_column q (g ∷ y ∷ refs) e h = absurd (grind arith)
+-- one sum is a sum
+all_sums : (q : Query) (rs : List Reduction) → is_one_sum q rs ≡ true → All (λ r. is_sum r.kind ≡ true) rs
+all_sums q [] h = absurd (false≢true h)
+all_sums q (r ∷ []) h = All-cons (λ (x : Reduction). is_sum x.kind ≡ true) r [] (both (is_sum r.kind) (is_int64 (ref_type q r.column)) h).0 (All-nil (λ (x : Reduction). is_sum x.kind ≡ true))
+all_sums q (r ∷ s ∷ rs) h = absurd (false≢true h)
 
 -- a place that there is not
-no_place : (o : Option ℕ) → option_map UnknownColumn o ≡ None → o ≡ None
-no_place None h = refl
-no_place (Some i) h = cc
+no_place : (cause : ℕ → QueryError) (o : Option ℕ) → option_map cause o ≡ None → o ≡ None
+no_place cause None h = refl
+no_place cause (Some i) h = cc
 
 -- a cause that there is not, and causes of which none is the first
 unmet : (b : Bool) (e : QueryError) → when b e ≡ None → b ≡ false
@@ -80,6 +73,7 @@ module _ (q : Query) (build probe : List Table) where
     pub keys : lacks_keys q ≡ false
     pub known : unknown_column q ≡ None
     pub schemas : schemas_differ q build probe ≡ false
+    pub reductions : unsupported_reduction q ≡ None
     pub filter : filter_is_unsupported q ≡ false
     pub plan : not (is_good_plan q.plan) ≡ false
     pub built : is_not_built q ≡ false
@@ -95,13 +89,12 @@ module _ (q : Query) (build probe : List Table) where
       let plan = no_first (when (not (is_good_plan q.plan)) BadPlan) from_built filter.1 in
       let built = no_first (when (is_not_built q) NotBuilt) from_size plan.1 in
       let size = no_first (when (is_too_large build || is_too_large probe) TooLarge) [] built.1 in
-      record { keys = unmet _ NoKeyColumns keys.0; known = no_place (unknown_column q) names.0; schemas = unmet _ SchemaMismatch schemas.0; filter = unmet _ UnsupportedFilter filter.0; plan = unmet _ BadPlan plan.0; built = unmet _ NotBuilt built.0; sizes = unmet _ TooLarge size.0 }
+      record { keys = unmet _ NoKeyColumns keys.0; known = no_place UnknownColumn (unknown_column q) names.0; schemas = unmet _ SchemaMismatch schemas.0; reductions = no_place UnsupportedReduction (unsupported_reduction q) reductions.0; filter = unmet _ UnsupportedFilter filter.0; plan = unmet _ BadPlan plan.0; built = unmet _ NotBuilt built.0; sizes = unmet _ TooLarge size.0 }
 
   -- what is not refused can be answered
   pub can_answer : checked_refusal q build probe ≡ None → CanAnswer q build probe
   can_answer h =
       let none = no_cause h in
-      let groups = neither (is_empty q.build_keys || is_empty q.probe_keys) (is_empty q.group_keys) none.keys in
       let mixed = neither _ (has_mixed_filter q) none.schemas in
       let types = neither _ (not (have_same_types q.build_schema q.build_keys q.probe_schema q.probe_keys)) mixed.0 in
       let probe_frames = neither _ (has_other_frame q.probe_schema probe) types.0 in
@@ -115,6 +108,11 @@ module _ (q : Query) (build probe : List Table) where
             types = not-false (have_same_types q.build_schema q.build_keys q.probe_schema q.probe_keys) types.1;
             plan = not-false (is_good_plan q.plan) none.plan;
           };
+          can_group = record {
+            keys = none.keys;
+            supported = none.reductions;
+            sums = all_sums q q.reductions (not-false (is_one_sum q q.reductions) sum.1);
+          };
           build_have = all_have q.build_schema build build_frames.1;
           integers = none.filter;
           one_type = mixed.1;
@@ -122,8 +120,6 @@ module _ (q : Query) (build probe : List Table) where
         probe_have = all_have q.probe_schema probe probe_frames.1;
         few_build = sizes.0;
         few_probe = sizes.1;
-        group = one_column q q.group_keys groups.1 sum.0;
-        sum = not-false (is_one_sum q q.reductions) sum.1;
       }
 
 pub ruleset checked = (can_answer)

@@ -5,5 +5,5 @@ pub use Rattle.join_model.specs.Filtered
 pub use Rattle.join_model.specs.Groups
 pub use Rattle.join_model.specs.Answers
 pub use Rattle.join_model.specs.Refusals
-pub mod Totals
 pub mod Listed
+pub mod AnswerLocals

@@ -1,10 +1,11 @@
 //! The probe side, morsel by morsel.
-ghost use Rattle.std.specs.Prelude.{◌≡◌, ◌+◌, ◌<◌, ◌≤◌, ◌^◌, [], false, List as Items, length, IfOk, IfErr, OnOk};
+ghost use Rattle.std.specs.Prelude.{◌≡◌, ◌+◌, ◌<◌, ◌≤◌, ◌^◌, [], ◌∷◌, false, List as Items, length, IfOk, IfErr};
 ghost use Rattle.col_core.specs.Tables.{Row};
+ghost use Rattle.list_laws.specs.Runs.{runs};
 ghost use Rattle.join_model.specs.Joined.{rows_of};
 ghost use Rattle.join_model.specs.Refusals.{is_too_large};
 ghost use Rattle.join_probes.specs.Keys.{AllHave};
-ghost use Rattle.join_engine.specs.Listed.{rows_of_probes, CanList, FailsWithMore, HasListed, IsQueryErrorOf, ListingFails, ListsMore};
+ghost use Rattle.join_engine.specs.Listed.{probe_morsels, rows_of_probes, CanList, CostsRows, FailsWithMore, HasListed, IsQueryErrorOf, ListingFails, ListsMore};
 
 use crate::listing::{Listing, take_pairs};
 use col_core::Frame;
@@ -38,17 +39,28 @@ fn take_morsel<L: Ledger>(
     requires can { CanList query.now build.now }
     requires same { morsel.now.schema ≡ query.now.probe_schema }
     requires few { length morsel.now.rows < 2 ^ 31 }
-    requires listed { (probed : Items Row)
-        × HasListed query.now build.now probed built.old listing }
+    requires listed { (ms : Items (Items Row))
+        × HasListed query.now build.now ms built.old listing }
+    requires number { listing.morsels < 2 ^ 33 }
     ensures listed { IfOk result
-        (ListsMore query.now build.now morsel.now.rows built.old listing built.new) }
+        (ListsMore query.now build.now (morsel.now.rows ∷ []) built.old listing built.new) }
     ensures fails { IfErr result
         (FailsWithMore query.now build.now morsel.now.rows built.old listing) }
-    ensures cost { OnOk result (steps.new ≤ steps.old + length morsel.now.rows) }
+    ensures morsels { IfOk result (λ after. after.morsels ≡ listing.morsels + 1) }
+    ensures cost { IfOk result
+        (CostsRows (length morsel.now.rows) listing steps.old steps.new) }
 {
     let most = query.plan.rows - listing.listed;
     let pairs = probe_morsel(alloc, query, built, morsel, most, steps).map_err(query_error)?;
-    Ok(take_pairs(alloc, query, morsel, build, pairs.as_slice(), listing)?)
+    Ok(take_pairs(
+        alloc,
+        query,
+        morsel,
+        build,
+        pairs.as_slice(),
+        listing,
+        steps,
+    )?)
 }
 
 /// Takes a frame cut into morsels of the plan's size, of which the last may be smaller.
@@ -64,13 +76,18 @@ fn take_slices<L: Ledger>(
     requires can { CanList query.now build.now }
     requires same { frame.now.schema ≡ query.now.probe_schema }
     requires few { length frame.now.rows < 2 ^ 31 }
-    requires listed { (probed : Items Row)
-        × HasListed query.now build.now probed built.old listing }
+    requires listed { (ms : Items (Items Row))
+        × HasListed query.now build.now ms built.old listing }
+    requires number { listing.morsels + length frame.now.rows < 2 ^ 33 }
     ensures listed { IfOk result
-        (ListsMore query.now build.now frame.now.rows built.old listing built.new) }
+        (ListsMore query.now build.now (runs query.now.plan.morsel frame.now.rows)
+        built.old listing built.new) }
     ensures fails { IfErr result
         (FailsWithMore query.now build.now frame.now.rows built.old listing) }
-    ensures cost { OnOk result (steps.new ≤ steps.old + length frame.now.rows) }
+    ensures morsels { IfOk result
+        (λ after. after.morsels ≤ listing.morsels + length frame.now.rows) }
+    ensures cost { IfOk result
+        (CostsRows (length frame.now.rows) listing steps.old steps.new) }
 {
     let mut listing = listing;
     let mut start = 0;
@@ -96,13 +113,18 @@ fn take_frame<L: Ledger>(
     requires can { CanList query.now build.now }
     requires same { frame.now.schema ≡ query.now.probe_schema }
     requires few { length frame.now.rows < 2 ^ 31 }
-    requires listed { (probed : Items Row)
-        × HasListed query.now build.now probed built.old listing }
+    requires listed { (ms : Items (Items Row))
+        × HasListed query.now build.now ms built.old listing }
+    requires number { listing.morsels + length frame.now.rows < 2 ^ 33 }
     ensures listed { IfOk result
-        (ListsMore query.now build.now frame.now.rows built.old listing built.new) }
+        (ListsMore query.now build.now (runs query.now.plan.morsel frame.now.rows)
+        built.old listing built.new) }
     ensures fails { IfErr result
         (FailsWithMore query.now build.now frame.now.rows built.old listing) }
-    ensures cost { OnOk result (steps.new ≤ steps.old + length frame.now.rows) }
+    ensures morsels { IfOk result
+        (λ after. after.morsels ≤ listing.morsels + length frame.now.rows) }
+    ensures cost { IfOk result
+        (CostsRows (length frame.now.rows) listing steps.old steps.new) }
 {
     let height = frame.height();
     if height == 0 {
@@ -129,10 +151,13 @@ pub(crate) fn take_probe<L: Ledger>(
     requires few { is_too_large probe.now ≡ false }
     requires none { HasListed query.now build.now [] built.old listing }
     ensures listed { IfOk result (λ after.
-        HasListed query.now build.now (rows_of probe.now) built.new after) }
+        HasListed query.now build.now (probe_morsels query.now probe.now) built.new after) }
     ensures fails { IfErr result
         (ListingFails query.now (rows_of_probes query.now build.now (rows_of probe.now))) }
-    ensures cost { OnOk result (steps.new ≤ steps.old + length (rows_of probe.now)) }
+    ensures morsels { IfOk result
+        (λ after. after.morsels ≤ listing.morsels + length (rows_of probe.now)) }
+    ensures cost { IfOk result
+        (CostsRows (length (rows_of probe.now)) listing steps.old steps.new) }
 {
     let mut listing = listing;
     for frame in probe {
