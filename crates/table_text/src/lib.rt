@@ -2,7 +2,7 @@
 //!
 //! [`frame_text`] writes one table and [`tables_text`] two, one after the other: a header record with
 //! the names of the columns, and then one record a row. The first field of each record is a mark, by
-//! which the tables of one text are told apart.
+//! which the tables of one text are told apart. [`record_text`] writes a single row.
 //!
 //! What is promised: the bytes are the text of the records that `table_records` lists, in
 //! `specs/Records`, with the fields of `specs/Fields`; csv's reader gives these records back
@@ -21,4 +21,4 @@ mod writer;
 pub use error::TextError;
 pub use examples::{field_text_examples, record_text_examples};
 pub use laws::{fields_tell_values_apart, text_reads_back};
-pub use text::{frame_text, tables_text};
+pub use text::{frame_text, record_text, tables_text};

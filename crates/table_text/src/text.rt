@@ -1,6 +1,7 @@
 //! The texts of tables.
-ghost use Rattle.std.specs.Prelude.{◌≡◌, ◌++◌, IfOk, OnOk};
-ghost use Rattle.table_text.specs.Records.{table_records, records_text};
+ghost use Rattle.std.specs.Prelude.{◌≡◌, ◌++◌, ◌<◌, [], length, slice_index_or, IfOk, OnOk};
+ghost use Rattle.csv.specs.Writing.{row_text};
+ghost use Rattle.table_text.specs.Records.{row_record, settings, table_records, records_text};
 ghost use Rattle.table_text.specs.Writers.{IsBetweenRecords, text_so_far};
 
 use crate::TextError;
@@ -39,6 +40,20 @@ pub fn tables_text(
     let mut writer = record_writer(alloc);
     write_table(alloc, &mut writer, first_mark, first)?;
     write_table(alloc, &mut writer, second_mark, second)?;
+    Ok(Blob::from_vec(written_text(writer)?))
+}
+
+/// The text of one row of a table, as [`frame_text`] writes its record.
+pub fn record_text(alloc: Global, mark: &str, table: &Frame, i: usize) -> Result<Blob, TextError>
+    requires { i < length table.now.rows }
+    ensures { IfOk result (λ text. text ≡ row_text settings
+        (row_record mark.now table.now.schema (slice_index_or table.now.rows i []))) }
+{
+    let mut writer = record_writer(alloc);
+    let mut record = ByteRecord::new(alloc);
+    let mut spare = Vec::new(alloc);
+    fill_row(&mut record, &mut spare, mark, table, i)?;
+    write_record(&mut writer, &record)?;
     Ok(Blob::from_vec(written_text(writer)?))
 }
 

@@ -52,9 +52,16 @@ fn expect_text(rt: &impl Abort, alloc: Global, frame: &Frame, wanted: &str) -> R
     Ok(())
 }
 
+// The frame of a text and a null, in a column `\k`, is written with this field for the text.
+fn expect_field(rt: &impl Abort, alloc: Global, text: &str, field: &str) -> Result<(), Fail> {
+    let value = text_leaf(alloc, text)?;
+    let frame = frame(alloc, "\\k", DataType::String, &value)?;
+    let wanted = format!(in alloc; "J,\\k\nJ,{field}\nJ,\\N\n")?;
+    expect_text(rt, alloc, &frame, wanted.as_str())
+}
+
 #[test]
 fn writes_texts_quoted_where_they_need_it(rt: HostRuntime) -> Result<(), Fail> {
-    let alloc = rt.alloc();
     for (text, field) in [
         ("Ann", "Ann"),
         ("", ""),
@@ -68,26 +75,52 @@ fn writes_texts_quoted_where_they_need_it(rt: HostRuntime) -> Result<(), Fail> {
         ("a\\N", "a\\N"),
         ("é 😀", "é 😀"),
     ] {
-        let value = text_leaf(alloc, text)?;
-        let frame = frame(alloc, "\\k", DataType::String, &value)?;
-        let wanted = format!(in alloc; "J,\\k\nJ,{field}\nJ,\\N\n")?;
-        expect_text(&rt, alloc, &frame, wanted.as_str())?;
+        expect_field(&rt, rt.alloc(), text, field)?;
     }
     Ok(())
 }
 
-#[test]
-fn writes_two_tables_of_numbers_and_bytes(rt: HostRuntime) -> Result<(), Fail> {
-    let alloc = rt.alloc();
-    let least = Leaf::Whole(-9223372036854775808);
-    let numbers = frame(alloc, "amt, €", DataType::Int64, &least)?;
-    let bytes = Leaf::Bytes(Blob::new(alloc, &[10, 255])?);
-    let bytes = frame(alloc, "v", DataType::Binary, &bytes)?;
-    let text = tables_text(alloc, "J", &numbers, "", &bytes)
+// The text of two frames, the first marked `J`.
+fn expect_two(
+    rt: &impl Abort,
+    alloc: Global,
+    first: &Frame,
+    second: &Frame,
+    wanted: &str,
+) -> Result<(), Fail> {
+    let text = tables_text(alloc, "J", first, "", second)
         .ok()
         .ok_or("no text")?;
-    let wanted = "J,\"amt, €\"\nJ,-9223372036854775808\nJ,\\N\n,v\n,0aff\n,\\N\n";
     assert_eq!(rt; text.as_slice(), wanted.as_bytes());
-    expect_text(&rt, alloc, &no_columns(alloc), "J\n")?;
     Ok(())
+}
+
+fn numbers(alloc: Global) -> Result<Frame, AllocError> {
+    frame(
+        alloc,
+        "amt, €",
+        DataType::Int64,
+        &Leaf::Whole(-9223372036854775808),
+    )
+}
+
+fn bytes(alloc: Global) -> Result<Frame, AllocError> {
+    frame(
+        alloc,
+        "v",
+        DataType::Binary,
+        &Leaf::Bytes(Blob::new(alloc, &[10, 255])?),
+    )
+}
+
+#[test]
+fn writes_two_tables_of_numbers_and_bytes(rt: HostRuntime) -> Result<(), Fail> {
+    let numbers = numbers(rt.alloc())?;
+    let wanted = "J,\"amt, €\"\nJ,-9223372036854775808\nJ,\\N\n,v\n,0aff\n,\\N\n";
+    expect_two(&rt, rt.alloc(), &numbers, &bytes(rt.alloc())?, wanted)
+}
+
+#[test]
+fn writes_a_table_without_columns(rt: HostRuntime) -> Result<(), Fail> {
+    expect_text(&rt, rt.alloc(), &no_columns(rt.alloc()), "J\n")
 }
