@@ -3,6 +3,8 @@ ghost use Rattle.std.specs.Prelude.{◌≡◌};
 ghost use Rattle.reduce_model.specs.Folds.{reduced_type};
 ghost use Rattle.any_reduce.specs.Kinds.{any_shape};
 
+use any_first_last::{AnyFirst, AnyLast};
+use any_min_max::{AnyMax, AnyMin};
 use col_core::{DataType, IdxSize, Series};
 use group_reduce::{GroupedReduction, Stated, parts_in};
 use reduce_model::ReductionKind;
@@ -14,6 +16,14 @@ use std::alloc::{AllocError, Global};
 pub enum AnyReduction {
     /// Sums.
     Sum(AnySum),
+    /// The least values.
+    Min(AnyMin),
+    /// The greatest values.
+    Max(AnyMax),
+    /// The first values.
+    First(AnyFirst),
+    /// The last values.
+    Last(AnyLast),
 }
 
 /// The same for the reduction of a variant, whichever it is.
@@ -21,6 +31,10 @@ macro_rules! each {
     ($this:expr, $inner:ident => $body:expr) => {
         match $this {
             AnyReduction::Sum($inner) => $body,
+            AnyReduction::Min($inner) => $body,
+            AnyReduction::Max($inner) => $body,
+            AnyReduction::First($inner) => $body,
+            AnyReduction::Last($inner) => $body,
         }
     };
 }
@@ -30,15 +44,24 @@ macro_rules! each_in {
     ($this:expr, $inner:ident => $body:expr) => {
         match $this {
             AnyReduction::Sum($inner) => AnyReduction::Sum($body),
+            AnyReduction::Min($inner) => AnyReduction::Min($body),
+            AnyReduction::Max($inner) => AnyReduction::Max($body),
+            AnyReduction::First($inner) => AnyReduction::First($body),
+            AnyReduction::Last($inner) => AnyReduction::Last($body),
         }
     };
 }
 
-/// The same for two reductions of one variant.
+/// The same for two reductions of one variant, of which no others are given.
 macro_rules! both {
     ($this:expr, $other:expr, $ours:ident, $theirs:ident => $body:expr) => {
         match ($this, $other) {
             (AnyReduction::Sum($ours), AnyReduction::Sum($theirs)) => return $body,
+            (AnyReduction::Min($ours), AnyReduction::Min($theirs)) => return $body,
+            (AnyReduction::Max($ours), AnyReduction::Max($theirs)) => return $body,
+            (AnyReduction::First($ours), AnyReduction::First($theirs)) => return $body,
+            (AnyReduction::Last($ours), AnyReduction::Last($theirs)) => return $body,
+            _ => unreachable!(),
         }
     };
 }
@@ -49,6 +72,18 @@ macro_rules! parted {
         match $this {
             AnyReduction::Sum($inner) => {
                 parts_in($alloc, $inner, $sizes, $idxs, |part| AnyReduction::Sum(part))
+            }
+            AnyReduction::Min($inner) => {
+                parts_in($alloc, $inner, $sizes, $idxs, |part| AnyReduction::Min(part))
+            }
+            AnyReduction::Max($inner) => {
+                parts_in($alloc, $inner, $sizes, $idxs, |part| AnyReduction::Max(part))
+            }
+            AnyReduction::First($inner) => {
+                parts_in($alloc, $inner, $sizes, $idxs, |part| AnyReduction::First(part))
+            }
+            AnyReduction::Last($inner) => {
+                parts_in($alloc, $inner, $sizes, $idxs, |part| AnyReduction::Last(part))
             }
         }
     };
@@ -61,6 +96,10 @@ impl AnyReduction {
     {
         match self {
             AnyReduction::Sum(_) => ReductionKind::Sum,
+            AnyReduction::Min(_) => ReductionKind::Min,
+            AnyReduction::Max(_) => ReductionKind::Max,
+            AnyReduction::First(_) => ReductionKind::First,
+            AnyReduction::Last(_) => ReductionKind::Last,
         }
     }
 
@@ -70,6 +109,10 @@ impl AnyReduction {
     {
         match self {
             AnyReduction::Sum(sums) => sum_type(sums.in_dtype()),
+            AnyReduction::Min(least) => least.in_dtype(),
+            AnyReduction::Max(greatest) => greatest.in_dtype(),
+            AnyReduction::First(first) => first.in_dtype(),
+            AnyReduction::Last(last) => last.in_dtype(),
         }
     }
 }

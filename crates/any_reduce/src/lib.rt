@@ -8,4 +8,7 @@ mod any;
 mod new;
 
 pub use any::AnyReduction;
-pub use new::{KindError, new_sum_reduction};
+pub use new::{
+    KindError, new_first_reduction, new_last_reduction, new_max_reduction, new_min_reduction,
+    new_reduction, new_sum_reduction,
+};

@@ -26,7 +26,7 @@ use Rattle.group_locals.specs.declared.local.LocalState.{LocalState}
 use Rattle.group_locals.specs.Rows.{KeyedRow}
 use Rattle.group_locals.specs.Locals.{AreFresh, LocalTakes, LocalsFit, kept}
 use Rattle.join_groups.specs.Keyed.{HasGroup, grouping_of_query, keyed_row}
-use Rattle.join_groups.specs.History.{HaveTaken, rows_in, rows_of_each}
+use Rattle.join_groups.specs.History.{HaveTaken, rows_in, morsel_rows}
 use Rattle.join_groups.proofs.Taken.{morsel_fresh, taken_more}
 
 -- a good plan has local states
@@ -34,15 +34,15 @@ pub some_states : (plan : Plan) → is_good_plan plan ≡ true → 0 < plan.stat
 some_states plan h = grind arith
 
 -- the rows of all morsels
-pub rows_are : (morsels : List Table) → rows_of_morsels (rows_of_each morsels) ≡ rows_of morsels
+pub rows_are : (morsels : List Table) → rows_of_morsels (morsel_rows morsels) ≡ rows_of morsels
 rows_are morsels = flat_map-map (λ (rows : List Row). rows) (λ (m : Table). m.rows) morsels
 
 -- the rows before a morsel, and those up to its end
-first_is : (morsels : List Table) (i : ℕ) → first_row (rows_of_each morsels) i ≡ length (rows_of (take i morsels))
+first_is : (morsels : List Table) (i : ℕ) → first_row (morsel_rows morsels) i ≡ length (rows_of (take i morsels))
 first_is morsels i = ap (λ (ms : List (List Row)). length (rows_of_morsels ms)) (take_map (λ (m : Table). m.rows) i morsels) ∙ ap length (rows_are (take i morsels))
 
 module _ (morsels : List Table) (i : ℕ) (m : Table) (e : m ≡ get_or morsels i m) (l : i < length morsels) where
-  pub first_next : first_row (rows_of_each morsels) (i + 1) ≡ first_row (rows_of_each morsels) i + length m.rows
+  pub first_next : first_row (morsel_rows morsels) (i + 1) ≡ first_row (morsel_rows morsels) i + length m.rows
   first_next =
       let a = first_is morsels (i + 1) in
       let b = ap length (flat_map_more (λ (m : Table). m.rows) morsels i m e l) in
@@ -50,7 +50,7 @@ module _ (morsels : List Table) (i : ℕ) (m : Table) (e : m ≡ get_or morsels 
       let d = first_is morsels i in
       omega arith
 
-  pub rows_room : first_row (rows_of_each morsels) i + length m.rows ≤ length (rows_of morsels)
+  pub rows_room : first_row (morsel_rows morsels) i + length m.rows ≤ length (rows_of morsels)
   rows_room =
       let a = first_next in
       let b = first_is morsels (i + 1) in
@@ -58,21 +58,21 @@ module _ (morsels : List Table) (i : ℕ) (m : Table) (e : m ≡ get_or morsels 
       omega arith
 
   -- one more first row
-  pub firsts_more : (firsts : List ℕ) (first : ℕ) → first ≡ first_row (rows_of_each morsels) i → firsts ≡ map (first_row (rows_of_each morsels)) (range_with_len 0 i) → firsts ++ first ∷ [] ≡ map (first_row (rows_of_each morsels)) (range_with_len 0 (i + 1))
+  pub firsts_more : (firsts : List ℕ) (first : ℕ) → first ≡ first_row (morsel_rows morsels) i → firsts ≡ map (first_row (morsel_rows morsels)) (range_with_len 0 i) → firsts ++ first ∷ [] ≡ map (first_row (morsel_rows morsels)) (range_with_len 0 (i + 1))
   firsts_more firsts first f h =
       ap₂ (λ (xs : List ℕ) (x : ℕ). xs ++ x ∷ []) h f
-      ∙ sym (ap (map (first_row (rows_of_each morsels))) (range_upto i) ∙ map-append (first_row (rows_of_each morsels)) (range_with_len 0 i) (i ∷ []))
+      ∙ sym (ap (map (first_row (morsel_rows morsels))) (range_upto i) ∙ map-append (first_row (morsel_rows morsels)) (range_with_len 0 i) (i ∷ []))
 
-  rows_same : m.rows ≡ get_or (rows_of_each morsels) i []
+  rows_same : m.rows ≡ get_or (morsel_rows morsels) i []
   rows_same = ap (λ (t : Table). t.rows) e ∙ sym (get_or-map (λ (t : Table). t.rows) morsels i m [] l)
 
 -- where a morsel's rows begin
-module _ (morsels : List Table) (firsts : List ℕ) (same : firsts ≡ map (first_row (rows_of_each morsels)) (range_with_len 0 (length morsels))) (i : ℕ) (l : i < length morsels) where
+module _ (morsels : List Table) (firsts : List ℕ) (same : firsts ≡ map (first_row (morsel_rows morsels)) (range_with_len 0 (length morsels))) (i : ℕ) (l : i < length morsels) where
   pub first_inside : i < length firsts
-  first_inside = let n = ap length same ∙ length-map-range_with_len (first_row (rows_of_each morsels)) 0 (length morsels) in omega arith
+  first_inside = let n = ap length same ∙ length-map-range_with_len (first_row (morsel_rows morsels)) 0 (length morsels) in omega arith
 
-  pub first_of : get_or firsts i 0 ≡ first_row (rows_of_each morsels) i
-  first_of = ap (λ (xs : List ℕ). get_or xs i 0) same ∙ get_or-map-range_with_len (first_row (rows_of_each morsels)) 0 (length morsels) i i 0 l (omega arith)
+  pub first_of : get_or firsts i 0 ≡ first_row (morsel_rows morsels) i
+  first_of = ap (λ (xs : List ℕ). get_or xs i 0) same ∙ get_or-map-range_with_len (first_row (morsel_rows morsels)) 0 (length morsels) i i 0 l (omega arith)
 
 -- a number that does not stand in a list differs from each of it
 none_same : (xs : List ℕ) (k : ℕ) → count_by (λ x. eqb x k) xs ≡ 0 → Each (λ x. x ≢ k) xs
@@ -106,7 +106,7 @@ module _ (count : ℕ) (order : List ℕ) (whole : IsWhole count order) (j : ℕ
 -- the rows of a whole order are as many as all
 module _ (morsels : List Table) (order : List ℕ) (whole : IsWhole (length morsels) order) where
   abbrev rows : List (List Row)
-  rows = rows_of_each morsels
+  rows = morsel_rows morsels
 
   pub whole_rows : IsWhole (length rows) order
   whole_rows = subst (λ (n : ℕ). IsWhole n order) (sym (length-map morsels (λ (m : Table). m.rows))) whole

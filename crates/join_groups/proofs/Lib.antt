@@ -8,6 +8,6 @@ pub mod GroupRows
 pub mod KeyedMorsels
 pub mod Taken
 pub mod Answer
-pub mod Sums
+pub mod Supported
 pub mod InOrder
 pub mod WholeOrders

@@ -21,8 +21,8 @@ abbrev pub keyed_morsels : Query → List (List Row) → List (List KeyedRow)
 keyed_morsels q ms = map (map (keyed_row q)) ms
 
 -- the rows of each morsel
-abbrev pub rows_of_each : List Table → List (List Row)
-rows_of_each morsels = map (λ m. m.rows) morsels
+abbrev pub morsel_rows : List Table → List (List Row)
+morsel_rows morsels = map (λ m. m.rows) morsels
 
 -- the rows of some morsels, in an order
 abbrev pub rows_in : List (List Row) → List ℕ → List Row

@@ -6,7 +6,7 @@ use Rattle.col_core.specs.Tables.{Row}
 use Rattle.key_parts.specs.declared.hash.PlRandomState.{PlRandomState}
 use Rattle.row_code.specs.Spelling.{IsRowOf, row_spelling}
 use Rattle.reduce_states.specs.Reductions.{Shape}
-use Rattle.any_reduce.specs.Kinds.{kind_form}
+use Rattle.any_reduce.specs.Kinds.{new_shape}
 use Rattle.join_query.specs.declared.query.Query.{Query}
 use Rattle.join_query.specs.declared.query.ColumnRef.{ColumnRef}
 use Rattle.join_query.specs.declared.query.Reduction.{Reduction}
@@ -41,7 +41,7 @@ plan_state q = record { seed = q.plan.seed; mask = q.plan.mask }
 
 -- the shape of a reduction without groups
 abbrev pub shape_of : Query → Reduction → Shape
-shape_of q r = record { kind = r.kind; dtype = ref_type q r.column; fixed = true; groups = 0; form = kind_form r.kind (ref_type q r.column) }
+shape_of q r = new_shape r.kind (ref_type q r.column)
 
 -- what the local states of a query group for
 abbrev pub grouping_of_query : Query → Grouping

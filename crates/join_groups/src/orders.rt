@@ -7,8 +7,8 @@ ghost use Rattle.any_reduce.specs.Kinds.{any_shape, any_holds};
 ghost use Rattle.join_model.specs.Answers.{group_schema, joined_schema};
 ghost use Rattle.join_model.specs.Groups.{group_rows};
 ghost use Rattle.join_model.specs.Joined.{rows_of};
-ghost use Rattle.join_model.specs.Refusals.{is_good_plan, is_sum, lacks_keys, unknown_column, unsupported_reduction};
-ghost use Rattle.join_groups.specs.History.{HaveTaken, answer_locals, rows_of_each};
+ghost use Rattle.join_model.specs.Refusals.{is_good_plan, lacks_keys, unknown_column, unsupported_reduction};
+ghost use Rattle.join_groups.specs.History.{HaveTaken, answer_locals, morsel_rows};
 
 use crate::locals::new_locals;
 use crate::merge::{Merged, merge_groups};
@@ -57,7 +57,7 @@ pub fn order_is_whole(count: usize, order: &[u32]) -> bool
 fn first_rows(alloc: Global, morsels: &[Frame]) -> Result<Vec<IdxSize>, AllocError>
     requires { length (rows_of morsels.now) < 2 ^ 32 }
     ensures { IfOk result (λ v. v.items
-        ≡ map (first_row (rows_of_each morsels.now)) (range_with_len 0 (length morsels.now))) }
+        ≡ map (first_row (morsel_rows morsels.now)) (range_with_len 0 (length morsels.now))) }
 {
     let mut first_rows = Vec::with_capacity(alloc, morsels.len())?;
     let mut row = 0;
@@ -82,12 +82,12 @@ fn group_each<L: Ledger>(
     requires known { unknown_column query.now ≡ None }
     requires joined { All (λ m. m.schema ≡ joined_schema query.now) morsels.now }
     requires some { 0 < length locals.old }
-    requires new { HaveTaken any_shape any_holds query.now (rows_of_each morsels.now) [] locals.old }
+    requires new { HaveTaken any_shape any_holds query.now (morsel_rows morsels.now) [] locals.old }
     requires rows { length (rows_of morsels.now) < 2 ^ 32 }
     requires firsts { first_rows.now
-        ≡ map (first_row (rows_of_each morsels.now)) (range_with_len 0 (length morsels.now)) }
+        ≡ map (first_row (morsel_rows morsels.now)) (range_with_len 0 (length morsels.now)) }
     requires whole { IsWhole (length morsels.now) order.now }
-    ensures taken { OnOk result (HaveTaken any_shape any_holds query.now (rows_of_each morsels.now)
+    ensures taken { OnOk result (HaveTaken any_shape any_holds query.now (morsel_rows morsels.now)
         order.now locals.new) }
     ensures cost { steps.new ≤ steps.old + length (rows_of morsels.now) }
 {
@@ -122,7 +122,6 @@ pub fn group_in_order<L: Ledger>(
     requires keys { lacks_keys query.now ≡ false }
     requires known { unknown_column query.now ≡ None }
     requires supported { unsupported_reduction query.now ≡ None }
-    requires sums { All (λ r. is_sum r.kind ≡ true) query.now.reductions }
     requires plan { is_good_plan query.now.plan ≡ true }
     requires joined { All (λ m. m.schema ≡ joined_schema query.now) morsels.now }
     requires rows { length (rows_of morsels.now) < 2 ^ 32 }
@@ -133,7 +132,7 @@ pub fn group_in_order<L: Ledger>(
           rows = group_rows query.now (rows_of morsels.now);
         }) }
     ensures locals { IfOk result
-        (λ m. m.locals ≡ answer_locals query.now (rows_of_each morsels.now) order.now) }
+        (λ m. m.locals ≡ answer_locals query.now (morsel_rows morsels.now) order.now) }
     ensures cost { steps.new ≤ steps.old + 2 * length (rows_of morsels.now) }
 {
     let first_rows = first_rows(alloc, morsels)?;

@@ -7,18 +7,14 @@ use Rattle.std.specs.Cmp.Lexicographic.{pointwise}
 use Rattle.list_laws.specs.Distinct.{has_repeat}
 use Rattle.col_core.specs.declared.schema.Field.{Field}
 use Rattle.col_core.specs.declared.data_type.DataType.{DataType}
-use Rattle.col_core.specs.declared.data_type.DataType.TheVariants.{Int8, Int16, Int32, Int64, UInt8, UInt16, UInt32, UInt64, String}
+use Rattle.col_core.specs.declared.data_type.DataType.TheVariants.{Int8, Int16, Int32, Int64, UInt8, UInt16, UInt32, UInt64}
 use Rattle.col_core.specs.Tables.{Table}
 use Rattle.col_core.specs.Schemas.{dtype_eq, schema_eq}
-use Rattle.reduce_model.specs.declared.kind.ReductionKind.{ReductionKind}
-use Rattle.reduce_model.specs.declared.kind.ReductionKind.TheVariants as kinds
 use Rattle.reduce_model.specs.Folds.{is_unsupported}
 use Rattle.join_query.specs.declared.error.QueryError.{QueryError}
-use Rattle.join_query.specs.declared.error.QueryError.TheVariants.{NoKeyColumns, UnknownColumn, SchemaMismatch, UnsupportedReduction, UnsupportedFilter, BadPlan, TooLarge, NotBuilt}
+use Rattle.join_query.specs.declared.error.QueryError.TheVariants.{NoKeyColumns, UnknownColumn, SchemaMismatch, UnsupportedReduction, UnsupportedFilter, BadPlan, TooLarge}
 use Rattle.join_query.specs.declared.query.Query.{Query}
 use Rattle.join_query.specs.declared.query.Plan.{Plan}
-use Rattle.join_query.specs.declared.query.ColumnRef.{ColumnRef}
-use Rattle.join_query.specs.declared.query.Reduction.{Reduction}
 use Rattle.join_query.specs.declared.query.IntLiteral.{IntLiteral}
 use Rattle.join_query.specs.declared.query.IntLiteral.TheVariants as literals
 use Rattle.join_query.specs.declared.query.Operand.{Operand}
@@ -107,32 +103,6 @@ is_good_plan plan = is_within plan.partitions MAX_PARTITIONS && is_within plan.s
     && is_within plan.limit MAX_LIMIT && is_within plan.morsel MAX_MORSEL
     && is_within plan.rows MAX_ROWS && (plan.pseed % 2 == 1)
 
-abbrev pub is_int64 : DataType → Bool
-is_int64 Int64 = true
-is_int64 _ = false
-
-abbrev pub is_sum : ReductionKind → Bool
-is_sum kinds.Sum = true
-is_sum _ = false
-
-abbrev pub is_group_type : DataType → Bool
-is_group_type Int64 = true
-is_group_type String = true
-is_group_type _ = false
-
--- more than one group key, or one that is neither `Int64` nor `String`
-abbrev pub is_group_not_built : Query → List ColumnRef → Bool
-is_group_not_built q refs = nat_lt 1 (length refs) || list_any (λ ref. not (is_group_type (ref_type q ref))) refs
-
--- exactly one sum, of an `Int64` column
-abbrev pub is_one_sum : Query → List Reduction → Bool
-is_one_sum q (r ∷ []) = is_sum r.kind && is_int64 (ref_type q r.column)
-is_one_sum q _ = false
-
--- what the engine does not answer today: other group keys, other reductions
-abbrev pub is_not_built : Query → Bool
-is_not_built q = is_group_not_built q q.group_keys || not (is_one_sum q q.reductions)
-
 -- a side has 2^31 or more frames or rows
 abbrev pub is_too_large : List Table → Bool
 is_too_large frames = nat_le SIDE_LIMIT (length frames) || nat_le SIDE_LIMIT (length (rows_of frames))
@@ -159,7 +129,6 @@ checked_refusal q build probe = first_of (
     ∷ option_map UnsupportedReduction (unsupported_reduction q)
     ∷ when (filter_is_unsupported q) UnsupportedFilter
     ∷ when (not (is_good_plan q.plan)) BadPlan
-    ∷ when (is_not_built q) NotBuilt
     ∷ when (is_too_large build || is_too_large probe) TooLarge
     ∷ [])
 

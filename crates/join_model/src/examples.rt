@@ -5,7 +5,7 @@ ghost use Rattle.col_core.specs.declared.data_type.DataType.TheVariants.{Int8, I
 ghost use Rattle.join_model.specs.Joined.{rows_of, joined_rows};
 ghost use Rattle.join_model.specs.Answers.{answer_rows, answer_groups};
 ghost use Rattle.join_model.specs.Refusals.{checked_refusal, refusal_of};
-ghost use Rattle.join_query.specs.declared.error.QueryError.TheVariants.{NoKeyColumns, UnknownColumn, SchemaMismatch, UnsupportedReduction, UnsupportedFilter, BadPlan, TooLarge, NotBuilt};
+ghost use Rattle.join_query.specs.declared.error.QueryError.TheVariants.{NoKeyColumns, UnknownColumn, SchemaMismatch, UnsupportedReduction, UnsupportedFilter, BadPlan, TooLarge};
 ghost use Rattle.join_query.specs.declared.query.FilterOp.TheVariants.{Eq};
 ghost use Rattle.join_query.specs.declared.query.Operand.TheVariants.{Column, Literal};
 ghost use Rattle.join_query.specs.declared.query.IntLiteral.TheVariants.{I64};
@@ -167,29 +167,28 @@ pub fn refusal_examples()
         customer_frames order_frames ≡ None }
 {}
 
-/// What the engine does not answer today, which comes before the length of the joined list.
-pub fn not_built_examples()
+/// Any reductions, none included, and any group keys are answered.
+pub fn accepted_examples()
     ensures least { refusal_of
         (record inner_query {
           reductions = reduction Min (probe_column (codes "amt")) ∷ [];
-        }) customer_frames order_frames ≡ Some NotBuilt }
+        }) customer_frames order_frames ≡ None }
     ensures other_sum { refusal_of
         (record inner_query {
           probe_schema = field (codes "cust") Int64 ∷ field (codes "amt") Int8 ∷ [];
-        }) [] [] ≡ Some NotBuilt }
+        }) [] [] ≡ None }
     ensures no_reduction { refusal_of
-        (record inner_query { reductions = [] }) customer_frames order_frames ≡ Some NotBuilt }
+        (record inner_query { reductions = [] }) customer_frames order_frames ≡ None }
     ensures other_group { refusal_of
         (record inner_query {
           probe_schema = orders ++ field (codes "day") Date ∷ [];
           group_keys = probe_column (codes "day") ∷ [];
-        }) [] [] ≡ Some NotBuilt }
+        }) [] [] ≡ None }
     ensures two_groups { refusal_of
         (record inner_query {
           group_keys = probe_column (codes "cust") ∷ probe_column (codes "amt") ∷ [];
-          plan = record DEFAULT_PLAN { rows = 2 };
         }) customer_frames order_frames
-        ≡ Some NotBuilt }
+        ≡ None }
     ensures other_column { refusal_of
         (record inner_query { probe_schema = orders ++ field (codes "day") Date ∷ [] }) [] []
         ≡ None }

@@ -9,7 +9,7 @@
 mod examples;
 
 pub use examples::{
-    filter_example, inner_join_example, not_built_examples, null_key_example, outer_join_example,
+    accepted_examples, filter_example, inner_join_example, null_key_example, outer_join_example,
     refusal_examples, report_example,
 };
 pub use join_query::{

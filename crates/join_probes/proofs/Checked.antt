@@ -8,9 +8,9 @@ use Rattle.col_core.specs.Schemas.{schema_eq}
 use Rattle.col_core.specs.Tables.{Table}
 use Rattle.col_core.proofs.Equalities.{schema_eq-Decides}
 use Rattle.join_query.specs.declared.error.QueryError.{QueryError}
-use Rattle.join_query.specs.declared.error.QueryError.TheVariants.{NoKeyColumns, UnknownColumn, SchemaMismatch, UnsupportedReduction, UnsupportedFilter, BadPlan, TooLarge, NotBuilt}
+use Rattle.join_query.specs.declared.error.QueryError.TheVariants.{NoKeyColumns, UnknownColumn, SchemaMismatch, UnsupportedReduction, UnsupportedFilter, BadPlan, TooLarge}
 use Rattle.join_query.specs.declared.query.Query.{Query}
-use Rattle.join_model.specs.Refusals.{have_same_types, has_mixed_filter, lacks_keys, unknown_column, repeats_name, has_other_frame, schemas_differ, unsupported_reduction, filter_is_unsupported, is_good_plan, is_not_built, is_too_large, when, first_of, checked_refusal}
+use Rattle.join_model.specs.Refusals.{have_same_types, has_mixed_filter, lacks_keys, unknown_column, repeats_name, has_other_frame, schemas_differ, unsupported_reduction, filter_is_unsupported, is_good_plan, is_too_large, when, first_of, checked_refusal}
 use Rattle.join_probes.specs.Keys.{AllHave}
 use Rattle.join_probes.specs.Probed.{CanJoin}
 
@@ -25,9 +25,9 @@ unmet : (b : Bool) (e : QueryError) → when b e ≡ None → b ≡ false
 unmet true e h = cc
 unmet false e h = refl
 
-no_place : (o : Option ℕ) → option_map UnknownColumn o ≡ None → o ≡ None
-no_place None h = refl
-no_place (Some i) h = cc
+no_place : (cause : ℕ → QueryError) (o : Option ℕ) → option_map cause o ≡ None → o ≡ None
+no_place cause None h = refl
+no_place cause (Some i) h = cc
 
 no_first : (o : Option QueryError) (rest : List (Option QueryError)) → first_of (o ∷ rest) ≡ None → (o ≡ None) × (first_of rest ≡ None)
 no_first None rest h = (refl, h)
@@ -38,11 +38,8 @@ module _ (q : Query) (build probe : List Table) where
   abbrev from_size : List (Option QueryError)
   from_size = when (is_too_large build || is_too_large probe) TooLarge ∷ []
 
-  abbrev from_built : List (Option QueryError)
-  from_built = when (is_not_built q) NotBuilt ∷ from_size
-
   abbrev from_plan : List (Option QueryError)
-  from_plan = when (not (is_good_plan q.plan)) BadPlan ∷ from_built
+  from_plan = when (not (is_good_plan q.plan)) BadPlan ∷ from_size
 
   abbrev from_filter : List (Option QueryError)
   from_filter = when (filter_is_unsupported q) UnsupportedFilter ∷ from_plan
@@ -63,16 +60,18 @@ module _ (q : Query) (build probe : List Table) where
     schemas : first_of from_schemas ≡ None
     schemas = (no_first (option_map UnknownColumn (unknown_column q)) from_schemas names).1
 
+    reductions : first_of from_reductions ≡ None
+    reductions = (no_first (when (schemas_differ q build probe) SchemaMismatch) from_reductions schemas).1
+
+    filters : first_of from_filter ≡ None
+    filters = (no_first (option_map UnsupportedReduction (unsupported_reduction q)) from_filter reductions).1
+
     plans : first_of from_plan ≡ None
-    plans =
-        let reductions = no_first (when (schemas_differ q build probe) SchemaMismatch) from_reductions schemas in
-        let filters = no_first (option_map UnsupportedReduction (unsupported_reduction q)) from_filter reductions.1 in
-        (no_first (when (filter_is_unsupported q) UnsupportedFilter) from_plan filters.1).1
+    plans = (no_first (when (filter_is_unsupported q) UnsupportedFilter) from_plan filters).1
 
     sizes : (is_too_large build || is_too_large probe) ≡ false
     sizes =
-        let built = no_first (when (not (is_good_plan q.plan)) BadPlan) from_built plans in
-        let size = no_first (when (is_not_built q) NotBuilt) from_size built.1 in
+        let size = no_first (when (not (is_good_plan q.plan)) BadPlan) from_size plans in
         unmet _ TooLarge (no_first (when (is_too_large build || is_too_large probe) TooLarge) [] size.1).0
 
     -- the keys' types agree, and no frame is of another schema
@@ -82,17 +81,17 @@ module _ (q : Query) (build probe : List Table) where
     abbrev no_types : Bool
     no_types = not (have_same_types q.build_schema q.build_keys q.probe_schema q.probe_keys)
 
+    alike : ((repeats || has_other_frame q.build_schema build || has_other_frame q.probe_schema probe || no_types) ≡ false) × (has_mixed_filter q ≡ false)
+    alike = neither _ (has_mixed_filter q) (unmet _ SchemaMismatch (no_first (when (schemas_differ q build probe) SchemaMismatch) from_reductions schemas).0)
+
     keys_agree : ((repeats || has_other_frame q.build_schema build || has_other_frame q.probe_schema probe) ≡ false) × (no_types ≡ false)
-    keys_agree =
-        let alike = unmet _ SchemaMismatch (no_first (when (schemas_differ q build probe) SchemaMismatch) from_reductions schemas).0 in
-        let mixed = neither _ (has_mixed_filter q) alike in
-        neither _ no_types mixed.0
+    keys_agree = neither _ no_types alike.0
 
     pub can_join : CanJoin q
     can_join = record {
-      known = no_place (unknown_column q) (no_first (option_map UnknownColumn (unknown_column q)) from_schemas names).0;
+      known = no_place UnknownColumn (unknown_column q) (no_first (option_map UnknownColumn (unknown_column q)) from_schemas names).0;
       types = not-false (have_same_types q.build_schema q.build_keys q.probe_schema q.probe_keys) keys_agree.1;
-      plan = not-false (is_good_plan q.plan) (unmet _ BadPlan (no_first (when (not (is_good_plan q.plan)) BadPlan) from_built plans).0);
+      plan = not-false (is_good_plan q.plan) (unmet _ BadPlan (no_first (when (not (is_good_plan q.plan)) BadPlan) from_size plans).0);
     }
 
     pub probe_have : AllHave q.probe_schema probe
@@ -106,5 +105,18 @@ module _ (q : Query) (build probe : List Table) where
 
     pub probe_few : is_too_large probe ≡ false
     probe_few = (neither (is_too_large build) (is_too_large probe) sizes).1
+
+    -- what groups and a filter need
+    pub has_keys : lacks_keys q ≡ false
+    has_keys = unmet _ NoKeyColumns (no_first (when (lacks_keys q) NoKeyColumns) from_names h).0
+
+    pub all_supported : unsupported_reduction q ≡ None
+    all_supported = no_place UnsupportedReduction (unsupported_reduction q) (no_first (option_map UnsupportedReduction (unsupported_reduction q)) from_filter reductions).0
+
+    pub over_integers : filter_is_unsupported q ≡ false
+    over_integers = unmet _ UnsupportedFilter (no_first (when (filter_is_unsupported q) UnsupportedFilter) from_plan filters).0
+
+    pub of_one_type : has_mixed_filter q ≡ false
+    of_one_type = alike.1
 
 pub ruleset checked = (can_join, build_have, probe_have, build_few, probe_few)

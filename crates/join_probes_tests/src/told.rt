@@ -32,8 +32,8 @@ fn probe_side(alloc: Global) -> Result<Vec<Frame>, Fail> {
     let mut frames = Vec::new(alloc);
     frames.push(frame(
         alloc,
-        &[Some(1), Some(3), None],
-        &[Some(10), Some(20), Some(30)],
+        &[Some(1), Some(3), Some(2), None],
+        &[Some(10), Some(20), Some(21), Some(30)],
     )?)?;
     Ok(frames)
 }
@@ -116,24 +116,25 @@ fn told(alloc: Global, query: &Query, most: u32) -> Result<String, Fail> {
 /// be, and what is told.
 type Case<'a> = (&'a [&'a str], bool, bool, u32, &'a str);
 
-const CASES: [Case; 6] = [
-    (&["x"], false, false, 9, "0-0.0 0-1.0 / 0.1 0.2 1.1 "),
+const CASES: [Case; 7] = [
+    (&["x"], false, false, 3, "0-0.0 0-1.0 2-0.1 / 0.2 1.1 "),
+    (&["x"], false, false, 2, "too large"),
     (
         &["x"],
         false,
         true,
         9,
-        "0-0.0 0-1.0 1-none 2-none / 0.1 0.2 1.1 ",
+        "0-0.0 0-1.0 1-none 2-0.1 3-none / 0.2 1.1 ",
     ),
-    (&["x"], true, false, 9, "0-0.0 0-1.0 2-0.2 2-1.1 / 0.1 "),
-    (&["x", "y"], true, false, 3, "0-0.0 2-0.2 2-1.1 / 0.1 1.0 "),
+    (&["x"], true, false, 9, "0-0.0 0-1.0 2-0.1 3-0.2 3-1.1 / "),
+    (&["x", "y"], true, false, 3, "0-0.0 3-0.2 3-1.1 / 0.1 1.0 "),
     (&["x", "y"], true, false, 2, "too large"),
     (
         &["x", "y"],
         false,
         true,
-        3,
-        "0-0.0 1-none 2-none / 0.1 0.2 1.0 1.1 ",
+        4,
+        "0-0.0 1-none 2-none 3-none / 0.1 0.2 1.0 1.1 ",
     ),
 ];
 

@@ -31,9 +31,6 @@ pub enum QueryError {
     /// 8: memory was wanted and not found. Nothing else is said of when this comes.
     #[error("out of memory")]
     Memory,
-    /// 9, which stands before 7 in the order: the engine does not answer such queries today.
-    #[error("not built")]
-    NotBuilt,
 }
 
 impl From<AllocError> for QueryError {

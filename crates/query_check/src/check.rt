@@ -1,17 +1,16 @@
 //! The causes of a refusal, in their order.
-ghost use Rattle.std.specs.Prelude.{◌≡◌, not};
-ghost use Rattle.std.specs.List.{list_any};
+ghost use Rattle.std.specs.Prelude.{◌≡◌};
 ghost use Rattle.std.specs.Result.{result_err};
 ghost use Rattle.reduce_model.specs.Folds.{has_no_sum, is_unsupported};
 ghost use Rattle.join_model.specs.ColumnRefs.{ref_type};
-ghost use Rattle.join_model.specs.Refusals.{lacks_keys, unsupported_reduction, is_integer, filter_is_unsupported, is_good_plan, is_int64, is_group_type, is_group_not_built, is_one_sum, is_not_built, is_too_large, checked_refusal};
+ghost use Rattle.join_model.specs.Refusals.{lacks_keys, unsupported_reduction, is_integer, filter_is_unsupported, is_good_plan, is_too_large, checked_refusal};
 
 use crate::columns::{ref_type, unknown_column};
 use crate::schemas::schemas_differ;
 use col_core::{DataType, Frame};
 use join_model::{
-    ColumnRef, MAX_LIMIT, MAX_MORSEL, MAX_PARTITIONS, MAX_ROWS, MAX_STATES, Plan, Query,
-    QueryError, Reduction, ReductionKind, SIDE_LIMIT,
+    MAX_LIMIT, MAX_MORSEL, MAX_PARTITIONS, MAX_ROWS, MAX_STATES, Plan, Query, QueryError,
+    ReductionKind, SIDE_LIMIT,
 };
 
 fn lacks_keys(query: &Query) -> bool
@@ -88,55 +87,6 @@ fn is_good_plan(plan: &Plan) -> bool
         && plan.pseed % 2 == 1
 }
 
-fn is_int64(dtype: DataType) -> bool
-    ensures { result ≡ is_int64 dtype }
-{
-    matches!(dtype, DataType::Int64)
-}
-
-fn is_group_type(dtype: DataType) -> bool
-    ensures { result ≡ is_group_type dtype }
-{
-    matches!(dtype, DataType::Int64 | DataType::String)
-}
-
-fn is_of_other_type(query: &Query, column: &ColumnRef) -> bool
-    ensures { result ≡ not (is_group_type (ref_type query.now column.now)) }
-{
-    !is_group_type(ref_type(query, column))
-}
-
-fn has_other_type(query: &Query, columns: &[ColumnRef]) -> bool
-    ensures { result ≡ list_any (λ ref. not (is_group_type (ref_type query.now ref))) columns.now }
-{
-    columns.iter().any(|column| is_of_other_type(query, column))
-}
-
-// Whether there is more than one group key, or one that is neither `Int64` nor `String`.
-fn is_group_not_built(query: &Query, columns: &[ColumnRef]) -> bool
-    ensures { result ≡ is_group_not_built query.now columns.now }
-{
-    columns.len() > 1 || has_other_type(query, columns)
-}
-
-fn is_one_sum(query: &Query, reductions: &[Reduction]) -> bool
-    ensures { result ≡ is_one_sum query.now reductions.now }
-{
-    match reductions {
-        [reduction] => matches!(reduction.kind, ReductionKind::Sum)
-            && is_int64(ref_type(query, &reduction.column)),
-        _ => false,
-    }
-}
-
-// Whether the engine does not answer such queries today.
-fn is_not_built(query: &Query) -> bool
-    ensures { result ≡ is_not_built query.now }
-{
-    is_group_not_built(query, query.group_keys.as_slice())
-        || !is_one_sum(query, query.reductions.as_slice())
-}
-
 // Whether a side has 2^31 or more frames or rows.
 #[tactic(auto, using(crate::proofs::Sides::rows_from_frame))]
 fn is_too_large(frames: &[Frame]) -> bool
@@ -178,9 +128,6 @@ pub fn check_query(query: &Query, build: &[Frame], probe: &[Frame]) -> Result<()
     }
     if !is_good_plan(&query.plan) {
         return Err(QueryError::BadPlan);
-    }
-    if is_not_built(query) {
-        return Err(QueryError::NotBuilt);
     }
     if is_too_large(build) || is_too_large(probe) {
         return Err(QueryError::TooLarge);

@@ -55,7 +55,7 @@ const REFUSALS: [(Change, Change, Option<QueryError>); 9] = [
         Some(QueryError::UnsupportedFilter),
     ),
     (NO_PARTITION, Change::KeepProbe, Some(QueryError::BadPlan)),
-    (Change::Least, Change::Nothing, Some(QueryError::NotBuilt)),
+    (Change::Least, Change::Nothing, None),
 ];
 
 #[test]

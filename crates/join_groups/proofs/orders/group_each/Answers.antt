@@ -3,7 +3,7 @@ use Rattle.std.proofs.lemmas.List.{take_all}
 use Rattle.col_core.specs.Tables.{Table}
 use Rattle.any_reduce.specs.Kinds.{any_holds, any_shape}
 use Rattle.join_model.specs.Answers.{joined_schema}
-use Rattle.join_groups.specs.History.{HaveTaken, rows_of_each}
+use Rattle.join_groups.specs.History.{HaveTaken, morsel_rows}
 use Rattle.join_groups.proofs.InOrder.{first_inside, first_of, number_inside, order_fresh, order_taken, rows_more, rows_most, rows_room}
 use Rattle.join_groups.proofs.Known.{at_item}
 use Rattle.join_groups.proofs.orders.group_each.Goals as goal
@@ -67,7 +67,7 @@ loop-number-preserved g c =
     }
 
 pub returns-clause-taken : goal.returns-clause-taken
-returns-clause-taken g c = subst (λ (seen : List ℕ). HaveTaken any_shape any_holds c.args.query.now (rows_of_each c.args.morsels.now) seen c.loop-number.locals) (take_all c.loop-number.number-index c.args.order.now c.loop-number-test.false) c.loop-number.invariant.taken
+returns-clause-taken g c = subst (λ (seen : List ℕ). HaveTaken any_shape any_holds c.args.query.now (morsel_rows c.args.morsels.now) seen c.loop-number.locals) (take_all c.loop-number.number-index c.args.order.now c.loop-number-test.false) c.loop-number.invariant.taken
 
 pub returns-clause-cost : goal.returns-clause-cost
 returns-clause-cost g c =

@@ -6,7 +6,7 @@ use Rattle.col_core.specs.Tables.{Row}
 use Rattle.any_reduce.specs.Kinds.{any_holds, any_shape}
 use Rattle.join_model.specs.Answers.{group_schema}
 use Rattle.join_model.specs.Groups.{group_rows}
-use Rattle.join_groups.specs.History.{HaveTaken, rows_of_each}
+use Rattle.join_groups.specs.History.{HaveTaken, morsel_rows}
 use Rattle.join_groups.proofs.Answer.{answer_locals_are, keys_few, merged_rows_are}
 use Rattle.join_groups.proofs.InOrder.{rows_are, some_states, whole_rows}
 use Rattle.join_groups.proofs.Taken.{none_taken}
@@ -22,13 +22,13 @@ group_each-requires-clause-some g c =
 pub group_each-requires-clause-new : goal.group_each-requires-clause-new
 group_each-requires-clause-new g c =
     let q = c.args.query.now in
-    let ms = rows_of_each c.args.morsels.now in
+    let ms = morsel_rows c.args.morsels.now in
     subst (HaveTaken any_shape any_holds q ms []) (sym c.deref_mut.ensures.value)
     (none_taken any_shape any_holds q ms c.in_ok-locals.locals.items c.in_ok-locals.ensures.count c.in_ok-locals.ensures.fit c.in_ok-locals.ensures.new)
 
 pub returns-clause-locals : goal.returns-clause-locals
 returns-clause-locals g c =
-    let ms = rows_of_each c.args.morsels.now in
+    let ms = morsel_rows c.args.morsels.now in
     let same = with_items_is c.in_ok-locals.locals c.group_each.new.locals (c.group_each.auto.locals ∙ c.deref_mut.ensures.len) in
     let have = subst (HaveTaken any_shape any_holds c.args.query.now ms c.args.order.now) (sym same) c.in_ok-group_each.ensures.taken in
     IfOk-weaker c.merge_groups.result _ _ (λ m h. h ∙ answer_locals_are any_shape any_holds c.args.query.now ms c.args.order.now (with_items c.in_ok-locals.locals c.group_each.new.locals).items have) c.merge_groups.ensures.groupers
@@ -36,7 +36,7 @@ returns-clause-locals g c =
 pub returns-clause-groups : goal.returns-clause-groups
 returns-clause-groups g c =
     let q = c.args.query.now in
-    let ms = rows_of_each c.args.morsels.now in
+    let ms = morsel_rows c.args.morsels.now in
     let same = with_items_is c.in_ok-locals.locals c.group_each.new.locals (c.group_each.auto.locals ∙ c.deref_mut.ensures.len) in
     let have = subst (HaveTaken any_shape any_holds q ms c.args.order.now) (sym same) c.in_ok-group_each.ensures.taken in
     let long = ap length (rows_are c.args.morsels.now) in
@@ -48,7 +48,7 @@ returns-clause-groups g c =
 pub returns-clause-cost : goal.returns-clause-cost
 returns-clause-cost g c =
     let q = c.args.query.now in
-    let ms = rows_of_each c.args.morsels.now in
+    let ms = morsel_rows c.args.morsels.now in
     let same = with_items_is c.in_ok-locals.locals c.group_each.new.locals (c.group_each.auto.locals ∙ c.deref_mut.ensures.len) in
     let have = subst (HaveTaken any_shape any_holds q ms c.args.order.now) (sym same) c.in_ok-group_each.ensures.taken in
     let long = ap length (rows_are c.args.morsels.now) in
