@@ -20,7 +20,7 @@ use Rattle.group_locals.specs.declared.local.LocalState.{LocalState}
 use Rattle.group_locals.specs.Locals.{AreFresh, LocalTakes, LocalsFit, kept}
 use Rattle.group_locals.specs.History.{LocalHolds}
 use Rattle.join_query.specs.declared.error.QueryError.{QueryError}
-use Rattle.join_query.specs.declared.error.QueryError.TheVariants.{NoKeyColumns, UnknownColumn, SchemaMismatch, UnsupportedReduction, UnsupportedFilter, BadPlan, TooLarge, Memory, NotBuilt}
+use Rattle.join_query.specs.declared.error.QueryError.TheVariants.{NoKeyColumns, UnknownColumn, SchemaMismatch, UnsupportedReduction, UnsupportedFilter, BadPlan, TooLarge, Memory}
 use Rattle.join_query.specs.declared.limits.TheConstants.{MAX_ROWS}
 use Rattle.join_query.specs.declared.query.Plan.{Plan}
 use Rattle.join_query.specs.declared.query.Query.{Query}
@@ -171,7 +171,6 @@ fails_front q front rest whole SchemaMismatch is h = h
 fails_front q front rest whole (UnsupportedReduction index) is h = h
 fails_front q front rest whole UnsupportedFilter is h = h
 fails_front q front rest whole BadPlan is h = h
-fails_front q front rest whole NotBuilt is h = h
 
 -- too many rows of a front of the probe rows are too many in all
 pub fails_with_more : (q : Query) (build : List Table) (front rest whole : List Row) (e : QueryError) → whole ≡ front ++ rest → ListingFails q (rows_of_probes q build front) e → ListingFails q (rows_of_probes q build whole) e
@@ -187,7 +186,6 @@ fails_cause q build probe SchemaMismatch h = absurd h
 fails_cause q build probe (UnsupportedReduction index) h = absurd h
 fails_cause q build probe UnsupportedFilter h = absurd h
 fails_cause q build probe BadPlan h = absurd h
-fails_cause q build probe NotBuilt h = absurd h
 
 -- where outer build rows are not kept there is none
 pub none_outer : (q : Query) (build : List Table) (probed : List Row) → q.keep_build ≡ false → outer_rows q build probed ≡ []

@@ -1,6 +1,6 @@
 -- What the engine rests on, and the rows that it has listed so far.
-use Rattle.std.specs.Prelude.{◌≡◌, ◌+◌, ◌<◌, ◌≤◌, ℕ, true, false, List, ◌++◌, map, filter, flat_map, length, Some, None}
-use Rattle.std.specs.List.{All, range_with_len}
+use Rattle.std.specs.Prelude.{◌≡◌, ◌+◌, ◌<◌, ◌≤◌, ℕ, false, List, ◌++◌, map, filter, flat_map, length, Some, None}
+use Rattle.std.specs.List.{range_with_len}
 use Rattle.col_core.specs.declared.row_place.RowPlace.{RowPlace}
 use Rattle.col_core.specs.Places.{row_of}
 use Rattle.col_core.specs.Tables.{Row, Table}
@@ -12,7 +12,7 @@ use Rattle.join_query.specs.declared.query.Query.{Query}
 use Rattle.join_model.specs.Answers.{joined_schema}
 use Rattle.join_model.specs.Filtered.{passes}
 use Rattle.join_model.specs.Joined.{nulls, is_outer, rows_of, rows_of_probe}
-use Rattle.join_model.specs.Refusals.{filter_is_unsupported, has_mixed_filter, is_sum, is_too_large, lacks_keys, unsupported_reduction}
+use Rattle.join_model.specs.Refusals.{filter_is_unsupported, has_mixed_filter, is_too_large, lacks_keys, unsupported_reduction}
 use Rattle.join_laws.specs.declared.Pair.{Pair}
 use Rattle.join_laws.specs.Locals.{rows_of_morsels}
 use Rattle.join_tables.specs.declared.built.Built.{Built}
@@ -27,7 +27,6 @@ use Rattle.join_engine.specs.declared.listing.Listing.{Listing}
 pub record CanGroup (q : Query) : Type 0 where
   pub keys : lacks_keys q ≡ false
   pub supported : unsupported_reduction q ≡ None
-  pub sums : All (λ r. is_sum r.kind ≡ true) q.reductions
 
 -- the query can join and group, the build frames have its schema, and its filter is over integers of one type
 pub record CanList (q : Query) (build : List Table) : Type 0 where

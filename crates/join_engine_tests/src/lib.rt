@@ -1,15 +1,9 @@
-//! Tests of `join_engine`: its public call on small frames, compared with answers that are known from outside.
+//! Tests of `join_engine`: what its answers hold beside the two tables, and a big join. What requests show stands in `examples/`.
 #![tactic(auto)]
 
 #[cfg(test)]
 mod asked;
 #[cfg(test)]
-mod fixtures;
+mod big;
 #[cfg(test)]
-mod kept;
-#[cfg(test)]
-mod key_types;
-#[cfg(test)]
-mod plans;
-#[cfg(test)]
-mod tests;
+mod parts;
