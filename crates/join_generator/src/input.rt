@@ -1,6 +1,7 @@
 //! A query with its frames.
-ghost use Rattle.std.specs.Prelude.{◌≡◌, ◌*◌, ◌<◌, ◌≤◌, [], ◌∷◌, length, IfOk};
+ghost use Rattle.std.specs.Prelude.{◌≡◌, ◌*◌, ◌<◌, ◌≤◌, [], ◌∷◌, length, None, IfOk};
 ghost use Rattle.join_model.specs.Joined.{rows_of, joined_rows};
+ghost use Rattle.join_model.specs.Refusals.{refusal_of};
 ghost use Rattle.join_generator.specs.Generated.{generated_query, build_table, probe_table};
 
 use crate::columns::{build_frame, probe_frame};
@@ -46,7 +47,7 @@ fn make(alloc: Global, n: u32) -> Result<Generated, AllocError>
 }
 
 /// The query, a frame of `n` build rows, and one of four times as many probe rows, `n` from 1 to
-/// 100,000. The joined list has at most nine times as many rows.
+/// 100,000. The joined list has at most nine times as many rows, and the query is not refused.
 pub fn generate(alloc: Global, n: u32) -> Result<Generated, AllocError>
     requires some { 0 < n }
     requires most { n ≤ 100000 }
@@ -55,6 +56,7 @@ pub fn generate(alloc: Global, n: u32) -> Result<Generated, AllocError>
     ensures probe { IfOk result (λ made. made.probe ≡ probe_table n ∷ []) }
     ensures few { IfOk result (λ made.
         length (joined_rows made.query (rows_of made.build) (rows_of made.probe)) ≤ 9 * n) }
+    ensures accepted { IfOk result (λ made. refusal_of made.query made.build made.probe ≡ None) }
 {
     let made = make(alloc, n)?;
     Ok(made)

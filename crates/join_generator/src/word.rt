@@ -1,5 +1,5 @@
 //! The number that a word writes.
-ghost use Rattle.std.specs.Prelude.{◌≡◌};
+ghost use Rattle.std.specs.Prelude.{◌≡◌, ◌<◌, ◌≤◌, IfSome};
 ghost use Rattle.std.specs.Char.{is_ascii_digit};
 ghost use Rattle.std.specs.List.{list_all};
 ghost use Rattle.join_generator.specs.Words.{is_numeral, number_of_word};
@@ -26,7 +26,9 @@ fn is_numeral(word: &[u8]) -> bool
 /// The number that a word writes in decimal, from 1 to 100,000. Any other word gives `None`, also one
 /// with a zero in front.
 pub fn number_of_word(word: &str) -> Option<u32>
-    ensures { result ≡ number_of_word word.now }
+    ensures number { result ≡ number_of_word word.now }
+    ensures some { IfSome result (λ number. 0 < number) }
+    ensures most { IfSome result (λ number. number ≤ 100000) }
 {
     if !is_numeral(word.as_bytes()) {
         return None;
