@@ -37,7 +37,6 @@ query_text queries.UnsupportedFilter = codes "query refused: 5 UnsupportedFilter
 query_text queries.BadPlan = codes "query refused: 6 BadPlan"
 query_text queries.TooLarge = codes "query refused: 7 TooLarge"
 query_text queries.Memory = codes "query refused: 8 Memory"
-query_text queries.NotBuilt = codes "query refused: 9 NotBuilt"
 
 abbrev pub cause_text : ToolError → List ℕ
 cause_text Usage = codes "usage: join_tool or join_tool gen N"
@@ -74,6 +73,6 @@ error_of_text texts.Memory = Memory
 error_of_text texts.Writer = TextFault
 
 -- the status of an answer, or of a cause why there is none
-abbrev pub status_after : Result (Unit {0}) ToolError → ℕ
+abbrev pub status_after : {A : Type 0} → Result A ToolError → ℕ
 status_after (Ok _) = 0
 status_after (Err e) = status_of e

@@ -1,3 +1,4 @@
+pub mod Commands
 pub mod Errors
 pub mod Replies
 pub mod Runs

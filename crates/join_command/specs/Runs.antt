@@ -1,10 +1,13 @@
 -- What a run of the program does to its streams. A stream stands here as what it tells before the run and after it: the bytes that a
 -- source has left or a sink holds, and the count of faults.
-use Rattle.std.specs.Prelude.{ℕ, ◌≡◌, ◌+◌, ◌^◌, ◌<◌, ◌≤◌, ◌↔◌, ◌⊎◌, List, length, Option, Result, Ok, Err}
+use Rattle.std.specs.Prelude.{ℕ, ◌≡◌, ◌+◌, ◌^◌, ◌<◌, ◌≤◌, ◌↔◌, ◌⊎◌, List, length, Option, Some, None, Result, Ok, Err}
 use Rattle.std.specs.Io.KnownBytes.{prepend_known, append_known, IsAtEnd}
 use Rattle.byte_streams.specs.declared.whole.TheConstants.{PIECE}
 use Rattle.byte_streams.specs.Faults.{Rose}
 use Rattle.byte_streams.specs.Whole.{GrowsByFront}
+use Rattle.generated_text.specs.Lines.{generated_text}
+use Rattle.join_command.specs.declared.command.Command.{Command}
+use Rattle.join_command.specs.declared.command.Command.TheVariants.{Answer, Generate}
 use Rattle.join_command.specs.declared.error.ToolError.{ToolError}
 use Rattle.join_command.specs.Errors.{status_of, line_of}
 use Rattle.join_command.specs.Replies.{reply_to}
@@ -27,16 +30,22 @@ IsAnswered before now text = (bytes : List ℕ) × WasRead before now bytes × (
 abbrev pub IsRefused : Option (List ℕ) → Option (List ℕ) → ToolError → Type 0
 IsRefused before now e = (bytes : List ℕ) × WasRead before now bytes × (reply_to bytes ≡ Err e)
 
--- A request was read from the source, and the text of its answer was written whole to the sink.
-pub record WritesAnswer (before now held grown : Option (List ℕ)) : Type 0 where
+-- This is the text of a command: that of the answer to the request that was read, or that for the generated input.
+abbrev pub IsTextOf : Option Command → Option (List ℕ) → Option (List ℕ) → List ℕ → Type 0
+IsTextOf (Some Answer) before now text = IsAnswered before now text
+IsTextOf (Some (Generate n)) before now text = text ≡ generated_text n
+IsTextOf None before now text = ⊥
+
+-- The text of a command was written whole to the sink.
+pub record WritesText (command : Option Command) (before now held grown : Option (List ℕ)) : Type 0 where
   pub text : List ℕ
-  pub answered : IsAnswered before now text
+  pub answered : IsTextOf command before now text
   pub written : grown ≡ append_known held text
 
--- A request was read from the source, and a front of the text of its answer was written to the sink.
-pub record WritesFront (before now held grown : Option (List ℕ)) : Type 0 where
+-- A front of the text of a command was written to the sink.
+pub record WritesFront (command : Option Command) (before now held grown : Option (List ℕ)) : Type 0 where
   pub text : List ℕ
-  pub answered : IsAnswered before now text
+  pub answered : IsTextOf command before now text
   pub written : GrowsByFront held grown text
 
 -- What was taken from the source: more than a request may have exactly with status 4, and then by at most a piece.
@@ -59,9 +68,9 @@ pub record TellsCause (status : ℕ) (before now held grown : Option (List ℕ))
   pub refused : 5 ≤ status → status ≤ 6 → IsRefused before now cause
   pub line : WritesLine held grown faults_before faults_now (line_of cause)
 
--- There are no words, and the source gave these bytes, no more than a request may have, without a fault.
-pub record IsGiven (words : ℕ) (bytes : List ℕ) (faults_before faults_now : ℕ) : Type 0 where
-  pub no_words : words ≡ 0
+-- A request is asked for, and the source gave these bytes, no more than a request may have, without a fault.
+pub record IsGiven (command : Option Command) (bytes : List ℕ) (faults_before faults_now : ℕ) : Type 0 where
+  pub asked : command ≡ Some Answer
   pub short : length bytes ≤ 2 ^ 28
   pub sound : ¬ Rose faults_before faults_now
 

@@ -122,7 +122,6 @@ fn query_line(e: QueryError) -> Line
         QueryError::BadPlan => plain("query refused: 6 BadPlan"),
         QueryError::TooLarge => plain("query refused: 7 TooLarge"),
         QueryError::Memory => plain("query refused: 8 Memory"),
-        QueryError::NotBuilt => plain("query refused: 9 NotBuilt"),
     }
 }
 

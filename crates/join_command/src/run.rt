@@ -1,11 +1,14 @@
 //! The program over any source and sinks.
-ghost use Rattle.std.specs.Prelude.{◌≡◌, ◌≢◌, ◌⊎◌, ◌↔◌, ◌==◌, ◌<◌, ◌≤◌, length, OnOk, IfErr, IfSome};
+ghost use Rattle.std.specs.Prelude.{◌≡◌, ◌≢◌, ◌⊎◌, ◌↔◌, ◌==◌, ◌≤◌, ℕ, Some, None, OnOk, IfOk, IfErr, IfSome};
 ghost use Rattle.byte_streams.specs.Faults.{Rose, faults_after};
+ghost use Rattle.join_command.specs.Commands.{command_of, IsPossible};
 ghost use Rattle.join_command.specs.Errors.{status_of, line_of, status_after};
 ghost use Rattle.join_command.specs.Replies.{reply_to, HasNoRefusal};
-ghost use Rattle.join_command.specs.Runs.{IsStatus, IsRefused, WritesAnswer, WritesFront, TakesFront, WritesLine, TellsCause, IsGiven, IsReplied};
+ghost use Rattle.join_command.specs.Runs.{IsStatus, IsRefused, IsTextOf, WritesText, WritesFront, TakesFront, WritesLine, TellsCause, IsGiven, IsReplied};
 
-use crate::{ToolError, answer_request};
+use crate::{Command, ToolError, answer_request, command_of};
+use col_core::Blob;
+use generated_text::generated_text;
 use join_text::{Sink, Source, read_to_end, write_all};
 use std::alloc::Global;
 use std::sync::ledger::Ledger;
@@ -25,8 +28,37 @@ pub fn report<E: Sink>(errors: &mut E, e: ToolError) -> u8
     e.status()
 }
 
-/// Reads a request, answers it, and writes the text of the answer, where there are no words. The
-/// clauses are those of `run_tool`, without what the error stream is told.
+/// The text that answers a command. For an answer it reads the request from the source, and for nothing
+/// else does it read.
+fn command_text<S: Source, L: Ledger>(
+    alloc: Global,
+    command: Command,
+    source: &mut S,
+    steps: &mut Steps<L>,
+) -> Result<Blob, ToolError>
+    requires { IsPossible command }
+    ensures text { IfOk result (IsTextOf (Some command) (S.left source.old) (S.left source.new)) }
+    ensures causes { IfErr result (λ e. (status_of e ≢ 2) × (status_of e ≢ 7)) }
+    ensures unread { command ≢ Command.Answer → source.new ≡ source.old }
+    ensures generated { command ≢ Command.Answer → IfErr result (λ e. status_of e ≡ 8) }
+    ensures taken { TakesFront (S.left source.old) (S.left source.new) (status_after result) }
+    ensures refused { IfErr result (λ e. 5 ≤ status_of e → status_of e ≤ 6 →
+        IsRefused (S.left source.old) (S.left source.new) e) }
+    ensures read_faults { S.faults source.new ≡
+        faults_after (status_after result == 3) (S.faults source.old) }
+    ensures reads_never_fall { S.faults source.old ≤ S.faults source.new }
+{
+    match command {
+        Command::Answer => {
+            let request = read_to_end(alloc, source, REQUEST_LIMIT)?;
+            answer_request(alloc, &request, steps)
+        }
+        Command::Generate(n) => Ok(generated_text(alloc, n, steps)?),
+    }
+}
+
+/// Answers the command of the words, and writes the text. The clauses are those of `run_tool`, without
+/// what the error stream is told.
 fn run_command<S: Source, O: Sink, L: Ledger>(
     alloc: Global,
     words: &[String],
@@ -34,14 +66,16 @@ fn run_command<S: Source, O: Sink, L: Ledger>(
     out: &mut O,
     steps: &mut Steps<L>,
 ) -> Result<(), ToolError>
-    ensures answered { OnOk result (WritesAnswer
+    ensures answered { OnOk result (WritesText (command_of words.now)
         (S.left source.old) (S.left source.new) (O.held out.old) (O.held out.new)) }
-    ensures usage { (status_after result ≡ 2) ↔ (0 < length words.now) }
-    ensures unread { status_after result ≡ 2 → source.new ≡ source.old }
+    ensures usage { (status_after result ≡ 2) ↔ (command_of words.now ≡ None) }
+    ensures unread { command_of words.now ≢ Some Command.Answer → source.new ≡ source.old }
+    ensures generated { (n : ℕ) → command_of words.now ≡ Some (Command.Generate n) →
+        IfErr result (λ e. (status_of e ≡ 7) ⊎ (status_of e ≡ 8)) }
     ensures taken { TakesFront (S.left source.old) (S.left source.new) (status_after result) }
     ensures refused { IfErr result (λ e. 5 ≤ status_of e → status_of e ≤ 6 →
         IsRefused (S.left source.old) (S.left source.new) e) }
-    ensures front { status_after result ≡ 7 → WritesFront
+    ensures front { status_after result ≡ 7 → WritesFront (command_of words.now)
         (S.left source.old) (S.left source.new) (O.held out.old) (O.held out.new) }
     ensures untouched { 2 ≤ status_after result → status_after result ≢ 7 → out.new ≡ out.old }
     ensures read_faults { S.faults source.new ≡
@@ -51,18 +85,18 @@ fn run_command<S: Source, O: Sink, L: Ledger>(
     ensures reads_never_fall { S.faults source.old ≤ S.faults source.new }
     ensures writes_never_fall { O.faults out.old ≤ O.faults out.new }
 {
-    if !words.is_empty() {
-        return Err(ToolError::Usage);
-    }
-    let request = read_to_end(alloc, source, REQUEST_LIMIT)?;
-    let text = answer_request(alloc, &request, steps)?;
+    let command = match command_of(words) {
+        Some(command) => command,
+        None => return Err(ToolError::Usage),
+    };
+    let text = command_text(alloc, command, source, steps)?;
     write_all(out, text.as_slice())?;
     Ok(())
 }
 
-/// Runs the program: without words, answers the request that the source gives, and with words there
-/// is no command yet. Answers the exit status. A source or a sink that does not tell its bytes leaves
-/// the clauses on bytes without content.
+/// Runs the program: without words it answers the request that the source gives, and with `gen N` the
+/// generated input of `N` build rows. Answers the exit status. A source or a sink that does not tell its
+/// bytes leaves the clauses on bytes without content.
 pub fn run_tool<S: Source, O: Sink, E: Sink, L: Ledger>(
     alloc: Global,
     words: &[String],
@@ -73,14 +107,14 @@ pub fn run_tool<S: Source, O: Sink, E: Sink, L: Ledger>(
 ) -> u8
     ensures status { IsStatus result }
 
-    // 0: the request was read and the text of its answer written whole, and the error stream is as it was.
-    ensures answered { result ≡ 0 → WritesAnswer
+    // 0: the text of the command was written whole, and the error stream is as it was. For a request it was read to its end.
+    ensures answered { result ≡ 0 → WritesText (command_of words.now)
         (S.left source.old) (S.left source.new) (O.held out.old) (O.held out.new) }
     ensures quiet { result ≡ 0 → errors.new ≡ errors.old }
 
-    // 2: exactly where there are words. The source is as it was.
-    ensures usage { (result ≡ 2) ↔ (0 < length words.now) }
-    ensures unread { result ≡ 2 → source.new ≡ source.old }
+    // 2: exactly where the words are no command. The source is as it was, also with `gen`.
+    ensures usage { (result ≡ 2) ↔ (command_of words.now ≡ None) }
+    ensures unread { command_of words.now ≢ Some Command.Answer → source.new ≡ source.old }
 
     // 4: exactly where more bytes were taken from the source than a request may have.
     ensures taken { TakesFront (S.left source.old) (S.left source.new) result }
@@ -90,7 +124,7 @@ pub fn run_tool<S: Source, O: Sink, E: Sink, L: Ledger>(
         (E.held errors.old) (E.held errors.new) (E.faults errors.old) (E.faults errors.new) }
 
     // 7: the sink has a front of the text. With 2 to 6 and 8 it is as it was.
-    ensures front { result ≡ 7 → WritesFront
+    ensures front { result ≡ 7 → WritesFront (command_of words.now)
         (S.left source.old) (S.left source.new) (O.held out.old) (O.held out.new) }
     ensures untouched { 2 ≤ result → result ≢ 7 → out.new ≡ out.old }
 
@@ -100,14 +134,20 @@ pub fn run_tool<S: Source, O: Sink, E: Sink, L: Ledger>(
 
     // A request that the source gives without a fault has its reply, unless memory runs out.
     ensures replied { IfSome (S.left source.old) (λ bytes.
-        IsGiven (length words.now) bytes (S.faults source.old) (S.faults source.new) →
+        IsGiven (command_of words.now) bytes (S.faults source.old) (S.faults source.new) →
         (result ≡ 8) ⊎ IsReplied (reply_to bytes) result) }
 
     // So where its query has no refusal, and the sink does not fail, it is answered, unless memory runs out.
     ensures complete { IfSome (S.left source.old) (λ bytes.
-        IsGiven (length words.now) bytes (S.faults source.old) (S.faults source.new) →
+        IsGiven (command_of words.now) bytes (S.faults source.old) (S.faults source.new) →
         HasNoRefusal bytes → ¬ Rose (O.faults out.old) (O.faults out.new) →
         (result ≡ 0) ⊎ (result ≡ 8)) }
+
+    // A generated input is answered, unless the sink fails or memory runs out.
+    ensures generated { (n : ℕ) → command_of words.now ≡ Some (Command.Generate n) →
+        (result ≡ 0) ⊎ ((result ≡ 7) ⊎ (result ≡ 8)) }
+    ensures generated_whole { (n : ℕ) → command_of words.now ≡ Some (Command.Generate n) →
+        ¬ Rose (O.faults out.old) (O.faults out.new) → (result ≡ 0) ⊎ (result ≡ 8) }
     ensures reads_never_fall { S.faults source.old ≤ S.faults source.new }
     ensures writes_never_fall { O.faults out.old ≤ O.faults out.new }
     ensures errors_never_fall { E.faults errors.old ≤ E.faults errors.new }

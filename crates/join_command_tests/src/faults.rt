@@ -1,47 +1,39 @@
-//! Streams that fail, requests that are too long, and words that are no command.
+//! Streams that fail, and requests that are too long.
 ghost use Rattle.std.specs.Prelude.{None};
 
-use crate::runs::{EXAMPLE, EXAMPLE_TEXT, run, sink, source_of};
+use crate::runs::{EXAMPLE, EXAMPLE_TEXT, run, run_example, run_into, sink, source_of};
 use join_text::{Source, Took};
+use std::alloc::Global;
 use std::test::Fail;
+
+/// Whether a source of one byte a call that fails at a call ends the run there, with nothing written.
+fn ends_at_read(alloc: Global, call: u64) -> Result<bool, Fail> {
+    let mut source = source_of(alloc, EXAMPLE.as_bytes(), 1, &[call])?;
+    let ended = run_into(alloc, &mut source, 1, &[])?;
+    let has_ended = ended.is(3, b"".as_slice(), "read fault\n");
+    Ok(has_ended && source.calls() == call.wrapping_add(1))
+}
 
 #[test]
 fn a_source_that_fails_at_each_call(rt: HostRuntime) -> Result<(), Fail> {
     // One call for each byte, and one for the end.
     let calls = EXAMPLE.len() as u64 + 1;
-    for call in 0..calls + 1 {
-        let mut source = source_of(rt.alloc(), EXAMPLE.as_bytes(), 1, &[call])?;
-        let mut out = sink(rt.alloc(), 1, &[])?;
-        let mut errors = sink(rt.alloc(), 1, &[])?;
-        let status = run(rt.alloc(), &[], &mut source, &mut out, &mut errors);
-        if call < calls {
-            assert_eq!(rt; status, 3, "call {call}");
-            assert_eq!(rt; errors.bytes(), b"read fault\n".as_slice());
-            assert!(rt; out.bytes().is_empty());
-            assert_eq!(rt; source.calls(), call + 1, "reads on after call {call}");
-        } else {
-            assert_eq!(rt; status, 0);
-        }
+    for call in 0..calls {
+        assert!(rt; ends_at_read(rt.alloc(), call)?, "call {call}");
     }
+    assert!(rt; !ends_at_read(rt.alloc(), calls)?);
     Ok(())
 }
 
 #[test]
 fn a_sink_that_fails_at_each_call(rt: HostRuntime) -> Result<(), Fail> {
     let text = EXAMPLE_TEXT.as_bytes();
-    for held in 0..text.len() + 1 {
-        let mut source = source_of(rt.alloc(), EXAMPLE.as_bytes(), 8192, &[])?;
-        let mut out = sink(rt.alloc(), 1, &[held as u64])?;
-        let mut errors = sink(rt.alloc(), 1, &[])?;
-        let status = run(rt.alloc(), &[], &mut source, &mut out, &mut errors);
-        assert_eq!(rt; out.bytes(), &text[..held]);
-        if held < text.len() {
-            assert_eq!(rt; status, 7, "call {held}");
-            assert_eq!(rt; errors.bytes(), b"write fault\n".as_slice());
-        } else {
-            assert_eq!(rt; status, 0);
-        }
+    for held in 0..text.len() {
+        let ended = run_example(rt.alloc(), EXAMPLE.as_bytes(), &[held as u64])?;
+        assert!(rt; ended.is(7, &text[..held], "write fault\n"), "call {held}");
     }
+    let ended = run_example(rt.alloc(), EXAMPLE.as_bytes(), &[text.len() as u64])?;
+    assert!(rt; ended.is(0, text, ""));
     Ok(())
 }
 
@@ -54,27 +46,6 @@ fn errors_that_fail_change_no_status(rt: HostRuntime) -> Result<(), Fail> {
     assert_eq!(rt; status, 5);
     assert!(rt; errors.bytes().is_empty());
     assert!(rt; out.bytes().is_empty());
-    Ok(())
-}
-
-#[test]
-fn words_that_are_no_command(rt: HostRuntime) -> Result<(), Fail> {
-    let cases: [&[&str]; 3] = [&["gen", "0"], &[""], &["--help"]];
-    for case in cases {
-        let mut words = Vec::new(rt.alloc());
-        for word in case {
-            words.push(String::from_str(rt.alloc(), *word)?)?;
-        }
-        let mut source = source_of(rt.alloc(), EXAMPLE.as_bytes(), 8192, &[])?;
-        let mut out = sink(rt.alloc(), 4096, &[])?;
-        let mut errors = sink(rt.alloc(), 4096, &[])?;
-        let status = run(rt.alloc(), &words, &mut source, &mut out, &mut errors);
-        assert_eq!(rt; status, 2);
-        let line = "usage: join_tool or join_tool gen N\n";
-        assert_eq!(rt; errors.bytes(), line.as_bytes());
-        assert!(rt; out.bytes().is_empty());
-        assert_eq!(rt; source.calls(), 0);
-    }
     Ok(())
 }
 
@@ -101,11 +72,7 @@ impl Source for Spaces {
 #[test]
 fn a_request_that_is_too_long(rt: HostRuntime) -> Result<(), Fail> {
     let mut source = Spaces((1 << 28) + 1);
-    let mut out = sink(rt.alloc(), 4096, &[])?;
-    let mut errors = sink(rt.alloc(), 4096, &[])?;
-    let status = run(rt.alloc(), &[], &mut source, &mut out, &mut errors);
-    assert_eq!(rt; status, 4);
-    assert_eq!(rt; errors.bytes(), b"request too long\n".as_slice());
-    assert!(rt; out.bytes().is_empty());
+    let ended = run_into(rt.alloc(), &mut source, 4096, &[])?;
+    assert!(rt; ended.is(4, b"".as_slice(), "request too long\n"));
     Ok(())
 }

@@ -1,11 +1,13 @@
-//! Tests of `run_tool` over streams in memory.
+//! Tests of `run_tool` over streams in memory. What requests alone show stands in `examples/`.
 #![tactic(auto)]
 
 #[cfg(test)]
-mod answers;
-#[cfg(test)]
 mod faults;
 #[cfg(test)]
-mod refusals;
+mod generated;
+#[cfg(test)]
+mod pieces;
 #[cfg(test)]
 mod runs;
+#[cfg(test)]
+mod words;

@@ -38,6 +38,46 @@ pub fn sink(alloc: Global, piece: usize, fail_at: &[u64]) -> Result<MemorySink, 
     MemorySink::new(alloc, 4096, piece, fail_at)
 }
 
+/// How a run ended: its status, and the streams that it wrote to.
+#[derive(Drop)]
+pub struct Ended {
+    status: u8,
+    out: MemorySink,
+    errors: MemorySink,
+}
+
+impl Ended {
+    /// Whether the run had this status and wrote this text and this line.
+    pub fn is(&self, status: u8, text: &[u8], line: &str) -> bool {
+        self.status == status && self.out.bytes() == text && self.errors.bytes() == line.as_bytes()
+    }
+}
+
+/// Runs the program over a source and into a sink that takes so much a call and fails at some calls.
+pub fn run_into<S: Source>(
+    alloc: Global,
+    source: &mut S,
+    piece: usize,
+    fail_at: &[u64],
+) -> Result<Ended, AllocError>
+    requires { 1 ≤ piece }
+{
+    let mut out = sink(alloc, piece, fail_at)?;
+    let mut errors = sink(alloc, piece, &[])?;
+    let status = run(alloc, &[], source, &mut out, &mut errors);
+    Ok(Ended {
+        status,
+        out,
+        errors,
+    })
+}
+
+/// Runs the program over a request, into a sink of one byte a call that fails at some calls.
+pub fn run_example(alloc: Global, request: &[u8], fail_at: &[u64]) -> Result<Ended, AllocError> {
+    let mut source = source_of(alloc, request, 8192, &[])?;
+    run_into(alloc, &mut source, 1, fail_at)
+}
+
 /// Runs the program.
 pub fn run<S: Source>(
     alloc: Global,

@@ -1,4 +1,5 @@
-//! The program: answers the request on standard input, and tells on standard error what it refuses.
+//! The program: answers the request on standard input, or with `gen N` a generated input, and tells on
+//! standard error what it refuses.
 //!
 //! `main` makes the three standard streams, takes the words after the program's name, and ends with
 //! the status of [`run_tool`], on whose clauses all rests (`join_command`).
