@@ -1,93 +1,122 @@
-//! Arrays.
-use col_arrays::{BinaryArray, Bitmap, BooleanArray, Native, PrimitiveArray};
+//! Arrays: built of items, taken at indexes, and appended to another.
+use col_arrays::{BinaryArray, BooleanArray, IdxSize, PrimitiveArray};
 use std::alloc::{AllocError, Global};
 use std::process::Abort;
 
+// Numbers, and nulls over 0.
+fn numbers(alloc: Global, items: &[Option<i64>]) -> Result<PrimitiveArray<i64>, AllocError> {
+    let mut built = PrimitiveArray::new(alloc);
+    for item in items {
+        match item {
+            Some(number) => built.push(*number, true)?,
+            None => built.push_null()?,
+        }
+    }
+    Ok(built)
+}
+
 // Compares each number, or null, with the one that is wanted.
-fn expect_wholes<T: Native>(rt: &impl Abort, items: &PrimitiveArray<T>, wanted: &[Option<i128>]) {
-    assert!(rt; items.len() == wanted.len());
-    for (i, whole) in wanted.iter().enumerate() {
-        assert!(rt;
-            items.get(i).map(|value| value.to_whole()) == *whole,
-            "item {i}"
-        );
+fn expect_numbers(rt: &impl Abort, numbers: &PrimitiveArray<i64>, wanted: &[Option<i64>]) {
+    assert!(rt; numbers.len() == wanted.len());
+    for (i, number) in wanted.iter().enumerate() {
+        assert!(rt; numbers.get(i) == *number);
     }
 }
 
-// The least value of a type, a null and the greatest are appended and read.
-fn expect_type<T: Native>(rt: &impl Abort, alloc: Global) -> Result<(), AllocError> {
-    let (least, greatest) = (T::min_value().to_whole(), T::max_value().to_whole());
-    let mut items = PrimitiveArray::new(alloc);
-    items.push(T::from_whole(least), true)?;
-    items.push_null()?;
-    items.push(T::from_whole(greatest), true)?;
-    expect_wholes(rt, &items, &[Some(least), None, Some(greatest)]);
-    Ok(())
+// The numbers of a range appended to all.
+fn longer_numbers(
+    rt: &impl Abort,
+    mut all: PrimitiveArray<i64>,
+    source: &PrimitiveArray<i64>,
+    start: usize,
+    len: usize,
+) -> Result<PrimitiveArray<i64>, AllocError> {
+    assert!(rt; start <= source.len() && len <= source.len() - start);
+    all.extend_from_range(source, start, len)?;
+    Ok(all)
 }
 
 #[test]
-fn each_type(rt: HostRuntime) -> Result<(), AllocError> {
-    let alloc = rt.alloc();
-    expect_type::<i8>(&rt, alloc)?;
-    expect_type::<i16>(&rt, alloc)?;
-    expect_type::<i32>(&rt, alloc)?;
-    expect_type::<i64>(&rt, alloc)?;
-    expect_type::<i128>(&rt, alloc)?;
-    expect_type::<u8>(&rt, alloc)?;
-    expect_type::<u16>(&rt, alloc)?;
-    expect_type::<u32>(&rt, alloc)?;
-    expect_type::<u64>(&rt, alloc)
+fn some_numbers(rt: HostRuntime) -> Result<(), AllocError> {
+    let source = numbers(rt.alloc(), &[Some(5), None, Some(7)])?;
+    let all = longer_numbers(&rt, numbers(rt.alloc(), &[Some(3)])?, &source, 1, 2)?;
+    expect_numbers(&rt, &all, &[Some(3), None, Some(7)]);
+    Ok(())
 }
 
-#[test]
-fn stored_numbers(rt: HostRuntime) -> Result<(), AllocError> {
-    let alloc = rt.alloc();
-    let mut numbers = PrimitiveArray::from_vec(vec![in alloc; 5i64]?);
-    numbers.push(-3, false)?;
-    numbers.push(7, true)?;
-    assert_eq!(rt; numbers.values(), [5, -3, 7].as_slice());
-    assert!(rt; numbers.len() == 3);
-    expect_wholes(&rt, &numbers.take(alloc, &[2, 1])?, &[Some(7), None]);
-    Ok(())
+// Truth values, and nulls over false.
+fn truths(alloc: Global, items: &[Option<bool>]) -> Result<BooleanArray, AllocError> {
+    let mut built = BooleanArray::new(alloc);
+    for item in items {
+        match item {
+            Some(truth) => built.push(*truth, true)?,
+            None => built.push_null()?,
+        }
+    }
+    Ok(built)
 }
 
 // Compares each truth value, or null, with the one that is wanted.
 fn expect_truths(rt: &impl Abort, truths: &BooleanArray, wanted: &[Option<bool>]) {
     assert!(rt; truths.len() == wanted.len());
     for (i, truth) in wanted.iter().enumerate() {
-        assert!(rt; truths.get(i) == *truth, "item {i}");
+        assert!(rt; truths.get(i) == *truth);
     }
 }
 
 #[test]
-fn truth_values(rt: HostRuntime) -> Result<(), AllocError> {
-    let alloc = rt.alloc();
-    let truths = BooleanArray::from_bitmap(Bitmap::from_u8_vec(vec![in alloc; 1u8]?, 2));
-    assert!(rt; truths.len() == 2);
-    let taken = truths.take(alloc, &[1, 1])?;
-    expect_truths(&rt, &taken, &[Some(false), Some(false)]);
-    let validity = Bitmap::from_u8_vec(vec![in alloc; 2u8]?, 2);
-    let some = truths.with_validity(Some(validity));
-    expect_truths(&rt, &some, &[None, Some(false)]);
+fn some_truths(rt: HostRuntime) -> Result<(), AllocError> {
+    let source = truths(rt.alloc(), &[Some(true), None, Some(false)])?;
+    let idxs: [IdxSize; 3] = [2, 1, 0];
+    assert!(rt; source.len() == 3);
+    let taken = source.take(rt.alloc(), &idxs)?;
+    expect_truths(&rt, &taken, &[Some(false), None, Some(true)]);
     Ok(())
 }
 
-// Compares each item, or null, with the one that is wanted.
+// Texts, and nulls over the empty text.
+fn texts(alloc: Global, items: &[Option<&[u8]>]) -> Result<BinaryArray, AllocError> {
+    let mut built = BinaryArray::new(alloc);
+    for item in items {
+        match item {
+            Some(text) => built.push(*text, true)?,
+            None => built.push_null()?,
+        }
+    }
+    Ok(built)
+}
+
+// Compares each text, or null, with the one that is wanted.
 fn expect_texts(rt: &impl Abort, texts: &BinaryArray, wanted: &[Option<&[u8]>]) {
     assert!(rt; texts.len() == wanted.len());
     for (i, text) in wanted.iter().enumerate() {
-        assert_eq!(rt; texts.get(i), *text, "item {i}");
+        assert!(rt; texts.get(i) == *text);
     }
 }
 
 #[test]
-fn texts(rt: HostRuntime) -> Result<(), AllocError> {
-    let bytes = Vec::from_slice(rt.alloc(), b"a")?;
-    let offsets = Vec::from_slice(rt.alloc(), &[0u64, 1, 1])?;
+fn some_texts(rt: HostRuntime) -> Result<(), AllocError> {
+    let items = [Some(b"ab".as_slice()), None, Some(b"")];
+    expect_texts(&rt, &texts(rt.alloc(), &items)?, &items);
+    Ok(())
+}
+
+// The items that bytes are, each from one offset to the next.
+fn parts(
+    rt: &impl Abort,
+    alloc: Global,
+    bytes: &[u8],
+    offsets: &[u64],
+) -> Result<BinaryArray, AllocError> {
+    let bytes = Vec::from_slice(alloc, bytes)?;
+    let offsets = Vec::from_slice(alloc, offsets)?;
     assert!(rt; BinaryArray::are_offsets(&bytes, &offsets));
-    let texts = BinaryArray::from_parts(bytes, offsets);
-    expect_texts(&rt, &texts, &[Some(b"a"), Some(b"")]);
-    assert!(rt; texts.len() == 2);
-    expect_texts(&rt, &texts.take(rt.alloc(), &[1])?, &[Some(b"")]);
+    Ok(BinaryArray::from_parts(bytes, offsets))
+}
+
+#[test]
+fn texts_of_parts(rt: HostRuntime) -> Result<(), AllocError> {
+    let texts = parts(&rt, rt.alloc(), b"abc", &[0, 2, 2, 3])?;
+    expect_texts(&rt, &texts, &[Some(b"ab"), Some(b""), Some(b"c")]);
     Ok(())
 }

@@ -7,5 +7,3 @@ mod arrays;
 mod bits;
 #[cfg(test)]
 mod numbers;
-#[cfg(test)]
-mod ranges;

@@ -2,6 +2,7 @@
 ghost use Rattle.std.specs.Prelude.{◌≡◌, ◌↔◌, ◌<ℤ◌, ◌+ℤ◌, IsTrue};
 
 use col_arrays::Native;
+use std::process::Abort;
 
 /// Whether a number is below another.
 fn is_less<T: Native>(a: T, b: T) -> bool
@@ -21,6 +22,20 @@ fn add_wrapped<T: Native>(a: T, b: T) -> T
 fn compared_and_added(rt: HostRuntime) {
     assert!(rt; is_less(-1i64, 0));
     assert!(rt; !is_less(7u64, 7));
-    assert_eq!(rt; add_wrapped(i8::MAX, 1), i8::MIN);
-    assert_eq!(rt; add_wrapped(u64::MAX, 2), 1);
+    assert!(rt; add_wrapped(i8::MAX, 1) == i8::MIN);
+    assert!(rt; add_wrapped(u64::MAX, 2) == 1);
+}
+
+/// The ends of a type's range.
+fn expect_ends<T: Native>(rt: &impl Abort, least: i128, greatest: i128) {
+    assert!(rt; T::min_value().to_whole() == least);
+    assert!(rt; T::max_value().to_whole() == greatest);
+}
+
+#[test]
+fn ends_of_types(rt: HostRuntime) {
+    expect_ends::<i8>(&rt, -128, 127);
+    expect_ends::<i64>(&rt, -9223372036854775808, 9223372036854775807);
+    expect_ends::<u16>(&rt, 0, 65535);
+    expect_ends::<u64>(&rt, 0, 18446744073709551615);
 }

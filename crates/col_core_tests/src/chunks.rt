@@ -1,34 +1,11 @@
 //! Columns of given chunks: which are refused, and values over several chunks.
-ghost use Rattle.std.specs.Prelude.{◌≡◌, ◌<◌, true, length, IfOk};
-ghost use Rattle.std.specs.List.{All};
-ghost use Rattle.col_core.specs.Tables.{leaves_of};
+ghost use Rattle.std.specs.Prelude.{◌≡◌, length, IfOk};
+ghost use Rattle.col_core.specs.Tables.{leaves_of, chunk_leaves};
 
-use crate::values::has_numbers;
-use col_core::{BinaryArray, Chunk, ColumnError, DataType, IdxSize, Name, PrimitiveArray, Series};
+use crate::values::expect_values;
+use col_core::{BinaryArray, Chunk, ColumnError, DataType, LeafRef, Name, PrimitiveArray, Series};
 use std::alloc::{AllocError, Global};
-
-/// Why one chunk makes no column of a type.
-#[tactic(auto, using(crate::proofs::Guards::one_chunk))]
-fn refusal(
-    alloc: Global,
-    dtype: DataType,
-    chunk: Chunk,
-) -> Result<Option<ColumnError>, AllocError> {
-    let name = Name::new(alloc, "c")?;
-    let _items = chunk.len();
-    Ok(Series::new(alloc, name, dtype, vec![in alloc; chunk]?).err())
-}
-
-#[test]
-fn other_kinds(rt: HostRuntime) -> Result<(), AllocError> {
-    let alloc = rt.alloc();
-    let wrong = Some(ColumnError::WrongPhysical);
-    let days = Chunk::I64(PrimitiveArray::new(alloc));
-    assert!(rt; refusal(alloc, DataType::Date, days)? == wrong);
-    let bytes = Chunk::U8(PrimitiveArray::from_vec(vec![in alloc; 255u8]?));
-    assert!(rt; refusal(alloc, DataType::String, bytes)? == wrong);
-    Ok(())
-}
+use std::test::Fail;
 
 /// One item of bytes that are no UTF-8, or a null over them.
 fn no_text(alloc: Global, present: bool) -> Result<Chunk, AllocError> {
@@ -37,72 +14,69 @@ fn no_text(alloc: Global, present: bool) -> Result<Chunk, AllocError> {
     Ok(Chunk::Bytes(bytes))
 }
 
+/// Why one chunk of such an item makes no column of a type.
+#[tactic(auto, using(crate::proofs::Guards::one_chunk))]
+fn refusal(
+    alloc: Global,
+    dtype: DataType,
+    present: bool,
+) -> Result<Option<ColumnError>, AllocError> {
+    let chunk = no_text(alloc, present)?;
+    let _items = chunk.len();
+    let chunks = vec![in alloc; chunk]?;
+    Ok(Series::new(alloc, Name::new(alloc, "c")?, dtype, chunks).err())
+}
+
 #[test]
-fn no_texts(rt: HostRuntime) -> Result<(), AllocError> {
-    let alloc = rt.alloc();
-    let refused = Some(ColumnError::NotUtf8);
-    assert!(rt; refusal(alloc, DataType::String, no_text(alloc, true)?)? == refused);
-    assert!(rt; refusal(alloc, DataType::String, no_text(alloc, false)?)? == None);
-    assert!(rt; refusal(alloc, DataType::Binary, no_text(alloc, true)?)? == None);
-    assert!(rt;
-        refusal(alloc, DataType::Int8, no_text(alloc, true)?)? == Some(ColumnError::WrongPhysical)
-    );
+fn refused_chunks(rt: HostRuntime) -> Result<(), AllocError> {
+    let rows = [
+        (DataType::String, true, Some(ColumnError::NotUtf8)),
+        (DataType::String, false, None),
+        (DataType::Binary, true, None),
+        (DataType::Int8, true, Some(ColumnError::WrongPhysical)),
+    ];
+    for (dtype, present, wanted) in rows {
+        assert!(rt; refusal(rt.alloc(), dtype, present)? == wanted);
+    }
     Ok(())
 }
 
-/// The values of a column at indexes, or `None` where one is out of bounds.
-pub fn taken(
-    alloc: Global,
-    column: &Series,
-    idxs: &[IdxSize],
-) -> Result<Option<Series>, AllocError> {
-    if !are_below(idxs, column.len()) {
-        return Ok(None);
-    }
-    Ok(Some(column.take(alloc, idxs)?))
+/// One number, or a null over it.
+fn one_number(alloc: Global, number: i32, present: bool) -> Result<Chunk, AllocError>
+    ensures { IfOk result (λ chunk. length (chunk_leaves chunk) ≡ 1) }
+{
+    let mut numbers = PrimitiveArray::new(alloc);
+    numbers.push(number, present)?;
+    Ok(Chunk::I32(numbers))
 }
 
-/// Whether all indexes are in bounds.
-pub fn are_below(idxs: &[IdxSize], len: usize) -> bool
-    ensures { result ≡ true → All (λ i. i < len) idxs.now }
+/// The number 3, and a null: two chunks.
+fn two_chunks(alloc: Global) -> Result<Vec<Chunk>, AllocError>
+    ensures { IfOk result (λ chunks. length (leaves_of chunks.items) ≡ 2) }
 {
-    for i in idxs {
-        if *i as usize >= len {
-            return false;
-        }
-    }
-    true
+    let first = one_number(alloc, 3, true)?;
+    let second = one_number(alloc, 5, false)?;
+    Ok(vec![in alloc; first, second]?)
 }
 
-/// The days 3, null; 5; and no day: three chunks.
-pub fn three_chunks(alloc: Global) -> Result<Vec<Chunk>, AllocError>
-    ensures { IfOk result (λ chunks. length (leaves_of chunks.items) ≡ 3) }
-{
-    let mut first = PrimitiveArray::from_vec(vec![in alloc; 3i32]?);
-    first.push(-1, false)?;
-    let second = PrimitiveArray::from_vec(vec![in alloc; 5i32]?);
-    let third = PrimitiveArray::from_vec(Vec::new(alloc));
-    Ok(vec![in alloc; Chunk::I32(first), Chunk::I32(second), Chunk::I32(third)]?)
+/// The days 3 and null, which lie in two chunks.
+pub fn days(alloc: Global) -> Result<Series, Fail> {
+    let name = Name::new(alloc, "day")?;
+    let chunks = two_chunks(alloc)?;
+    Ok(
+        Series::new(alloc, name, DataType::Date, chunks)
+            .ok()
+            .ok_or("no column")?,
+    )
 }
 
 #[test]
-fn values_of_several_chunks(rt: HostRuntime) -> Result<(), AllocError> {
-    let alloc = rt.alloc();
-    let name = Name::new(alloc, "day")?;
-    let chunks = three_chunks(alloc)?;
-    if let Ok(days) = Series::new(alloc, name, DataType::Date, chunks) {
-        assert_eq!(rt; days.name().as_str(), "day");
-        assert_eq!(rt; days.chunks().len(), 3);
-        assert_eq!(rt; days.null_count(), 1);
-        assert!(rt; has_numbers(&days, &[Some(3), None, Some(5)]));
-        if let Some(taken) = taken(alloc, &days, &[2, 1, 0, 2])? {
-            assert!(rt; has_numbers(&taken, &[Some(5), None, Some(3), Some(5)]));
-            let whole = days.rechunk(alloc)?;
-            assert_eq!(rt; whole.chunks().len(), 1);
-            assert!(rt; has_numbers(&whole, &[Some(3), None, Some(5)]));
-            return Ok(());
-        }
-    }
-    assert!(rt; false, "no column");
+fn values_of_two_chunks(rt: HostRuntime) -> Result<(), Fail> {
+    let days = days(rt.alloc())?;
+    assert!(rt; days.null_count() == 1);
+    expect_values(&rt, &days, &[LeafRef::Whole(3), LeafRef::Null]);
+    let whole = days.rechunk(rt.alloc())?;
+    assert!(rt; whole.chunks().len() == 1);
+    expect_values(&rt, &whole, &[LeafRef::Whole(3), LeafRef::Null]);
     Ok(())
 }

@@ -1,11 +1,11 @@
-//! Requests and their refusals, by example.
+//! Tests of requests at concrete values.
 #![tactic(auto)]
 
 #[cfg(test)]
+mod example;
+#[cfg(test)]
+mod queries;
+#[cfg(test)]
 mod refusals;
-#[cfg(test)]
-mod requests;
-#[cfg(test)]
-mod shown;
 #[cfg(test)]
 mod types;

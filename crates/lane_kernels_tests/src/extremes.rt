@@ -1,18 +1,18 @@
-//! The least and the greatest, at each of the types.
+//! The least and the greatest.
 use crate::fixtures::array_of;
-use col_arrays::{Native, PrimitiveArray};
+use col_arrays::PrimitiveArray;
 use lane_kernels::MinMaxKernel;
 use std::alloc::{AllocError, Global};
 use std::process::Abort;
 
 // Each form of each call on the present values of an array.
-fn expect_extremes<T: Native>(
+fn expect_extremes(
     rt: &impl Abort,
-    array: &PrimitiveArray<T>,
-    least: Option<T>,
-    greatest: Option<T>,
-    both: Option<(T, T)>,
+    array: &PrimitiveArray<i8>,
+    least: Option<i8>,
+    greatest: Option<i8>,
 ) {
+    let both = least.zip(greatest);
     assert!(rt; array.min_ignore_nan_kernel() == least);
     assert!(rt; array.min_propagate_nan_kernel() == least);
     assert!(rt; array.max_ignore_nan_kernel() == greatest);
@@ -21,63 +21,36 @@ fn expect_extremes<T: Native>(
     assert!(rt; array.min_max_propagate_nan_kernel() == both);
 }
 
-#[test]
-fn small_numbers(rt: HostRuntime) -> Result<(), AllocError> {
-    let mut array = array_of(rt.alloc(), &[Some(5i8)])?;
-    array.push(-3, false)?;
-    array.push(7, true)?;
-    expect_extremes(&rt, &array, Some(5), Some(7), Some((5, 7)));
-    Ok(())
-}
-
-#[test]
-fn no_number(rt: HostRuntime) -> Result<(), AllocError> {
-    expect_extremes(&rt, &array_of::<i8>(rt.alloc(), &[])?, None, None, None);
-    expect_extremes(&rt, &array_of::<i8>(rt.alloc(), &[None])?, None, None, None);
-    Ok(())
-}
-
-#[test]
-fn nines(rt: HostRuntime) {
-    let nines = [9u16; 17];
-    assert!(rt; nines.as_slice().min_ignore_nan_kernel() == Some(9));
-}
-
-// The ends of a type's range beside a null.
-fn expect_ends<T: Native>(
+// The extremes of items, after which a number stands under a null.
+fn expect_of(
     rt: &impl Abort,
     alloc: Global,
-    items: &[Option<T>],
+    items: &[Option<i8>],
+    least: Option<i8>,
+    greatest: Option<i8>,
 ) -> Result<(), AllocError> {
-    let (least, greatest) = (T::min_value(), T::max_value());
-    let array = array_of(alloc, items)?;
-    expect_extremes(
-        rt,
-        &array,
-        Some(least),
-        Some(greatest),
-        Some((least, greatest)),
-    );
-    assert!(rt; array.values().max_ignore_nan_kernel() == Some(greatest));
+    let mut array = array_of(alloc, items)?;
+    array.push(-100, false)?;
+    expect_extremes(rt, &array, least, greatest);
     Ok(())
-}
-
-/// The ends of a type's range, and a null between them.
-macro_rules! expect_type {
-    ($rt:ident, $type:ident) => {
-        expect_ends(&$rt, $rt.alloc(), &[Some($type::MAX), None, Some($type::MIN)])?
-    };
 }
 
 #[test]
-fn each_type(rt: HostRuntime) -> Result<(), AllocError> {
-    expect_type!(rt, i8);
-    expect_type!(rt, i16);
-    expect_type!(rt, i32);
-    expect_type!(rt, i64);
-    expect_type!(rt, u8);
-    expect_type!(rt, u16);
-    expect_type!(rt, u32);
-    expect_type!(rt, u64);
+fn extremes(rt: HostRuntime) -> Result<(), AllocError> {
+    let rows: [(&[Option<i8>], Option<i8>, Option<i8>); 3] = [
+        (&[Some(7), None, Some(-3), Some(5)], Some(-3), Some(7)),
+        (&[None], None, None),
+        (&[Some(-128)], Some(-128), Some(-128)),
+    ];
+    for (items, least, greatest) in rows {
+        expect_of(&rt, rt.alloc(), items, least, greatest)?;
+    }
     Ok(())
+}
+
+#[test]
+fn slices(rt: HostRuntime) {
+    let numbers = [9u64, 0, u64::MAX];
+    assert!(rt; numbers.as_slice().min_ignore_nan_kernel() == Some(0));
+    assert!(rt; numbers.as_slice().max_ignore_nan_kernel() == Some(u64::MAX));
 }

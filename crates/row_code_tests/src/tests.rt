@@ -100,92 +100,53 @@ fn is_number(alloc: Global, dtype: DataType, z: i128, bytes: &[u8]) -> Result<bo
     Ok(is_spelled(alloc, dtype, value, &all)? && is_read(alloc, dtype, value, &all)?)
 }
 
-#[test]
-fn signed_integers(rt: HostRuntime) -> Result<(), AllocError> {
-    let cases: [(DataType, i128, &[u8]); 8] = [
-        (DataType::Int8, -128, b"\x80"),
-        (DataType::Int8, 127, b"\x7f"),
-        (DataType::Int16, -32768, b"\x00\x80"),
-        (DataType::Int16, 32767, b"\xff\x7f"),
-        (DataType::Int32, -2147483648, b"\x00\x00\x00\x80"),
-        (DataType::Int32, 2147483647, b"\xff\xff\xff\x7f"),
-        (
-            DataType::Int64,
-            -9223372036854775808,
-            b"\x00\x00\x00\x00\x00\x00\x00\x80",
-        ),
-        (
-            DataType::Int64,
-            9223372036854775807,
-            b"\xff\xff\xff\xff\xff\xff\xff\x7f",
-        ),
-    ];
-    for (dtype, z, bytes) in cases {
-        assert!(rt; is_number(rt.alloc(), dtype, z, bytes)?);
-    }
-    Ok(())
-}
-
-#[test]
-fn unsigned_integers(rt: HostRuntime) -> Result<(), AllocError> {
-    let cases: [(DataType, i128, &[u8]); 8] = [
-        (DataType::UInt8, 0, b"\x00"),
-        (DataType::UInt8, 255, b"\xff"),
-        (DataType::UInt16, 0, b"\x00\x00"),
-        (DataType::UInt16, 65535, b"\xff\xff"),
-        (DataType::UInt32, 0, b"\x00\x00\x00\x00"),
-        (DataType::UInt32, 4294967295, b"\xff\xff\xff\xff"),
-        (DataType::UInt64, 0, b"\x00\x00\x00\x00\x00\x00\x00\x00"),
-        (
-            DataType::UInt64,
-            18446744073709551615,
-            b"\xff\xff\xff\xff\xff\xff\xff\xff",
-        ),
-    ];
-    for (dtype, z, bytes) in cases {
-        assert!(rt; is_number(rt.alloc(), dtype, z, bytes)?);
-    }
-    Ok(())
-}
-
-#[test]
-fn wide_numbers(rt: HostRuntime) -> Result<(), AllocError> {
-    let least = b"\x00\x00\x00\x00\x00\x00\x00\x00\x00\x00\x00\x00\x00\x00\x00\x80";
-    let greatest = b"\xff\xff\xff\xff\xff\xff\xff\xff\xff\xff\xff\xff\xff\xff\xff\x7f";
-    for dtype in [DataType::Int128, DataType::Decimal(38, 2)] {
-        assert!(rt; is_number(rt.alloc(), dtype, i128::MIN, least)?);
-        assert!(rt; is_number(rt.alloc(), dtype, i128::MAX, greatest)?);
-    }
-    Ok(())
-}
-
-#[test]
-fn days_and_times(rt: HostRuntime) -> Result<(), AllocError> {
-    let alloc = rt.alloc();
-    assert!(rt; is_number(alloc, DataType::Date, -2147483648, b"\x00\x00\x00\x80")?);
-    assert!(rt; is_number(alloc, DataType::Date, 2147483647, b"\xff\xff\xff\x7f")?);
-    let long = [
-        DataType::Time,
+/// Whole numbers at the ends of their types, and their bytes, the lowest first.
+const NUMBERS_OF_TYPES: [(DataType, i128, &[u8]); 15] = [
+    (DataType::Int8, -128, b"\x80"),
+    (DataType::Int16, -32768, b"\x00\x80"),
+    (DataType::Int16, 32767, b"\xff\x7f"),
+    (DataType::Int32, -2147483648, b"\x00\x00\x00\x80"),
+    (
+        DataType::Int64,
+        9223372036854775807,
+        b"\xff\xff\xff\xff\xff\xff\xff\x7f",
+    ),
+    (DataType::UInt8, 255, b"\xff"),
+    (DataType::UInt16, 258, b"\x02\x01"),
+    (DataType::UInt32, 4294967295, b"\xff\xff\xff\xff"),
+    (
+        DataType::UInt64,
+        18446744073709551615,
+        b"\xff\xff\xff\xff\xff\xff\xff\xff",
+    ),
+    (
+        DataType::Int128,
+        i128::MIN,
+        b"\x00\x00\x00\x00\x00\x00\x00\x00\x00\x00\x00\x00\x00\x00\x00\x80",
+    ),
+    (
+        DataType::Decimal(38, 2),
+        i128::MAX,
+        b"\xff\xff\xff\xff\xff\xff\xff\xff\xff\xff\xff\xff\xff\xff\xff\x7f",
+    ),
+    (DataType::Date, 2147483647, b"\xff\xff\xff\x7f"),
+    (DataType::Time, -1, b"\xff\xff\xff\xff\xff\xff\xff\xff"),
+    (
         DataType::Datetime(TimeUnit::Milliseconds),
+        1,
+        b"\x01\x00\x00\x00\x00\x00\x00\x00",
+    ),
+    (
         DataType::Duration(TimeUnit::Nanoseconds),
-    ];
-    for dtype in long {
-        assert!(rt;
-            is_number(
-                alloc,
-                dtype,
-                i64::MIN as i128,
-                b"\x00\x00\x00\x00\x00\x00\x00\x80"
-            )?
-        );
-        assert!(rt;
-            is_number(
-                alloc,
-                dtype,
-                i64::MAX as i128,
-                b"\xff\xff\xff\xff\xff\xff\xff\x7f"
-            )?
-        );
+        -2,
+        b"\xfe\xff\xff\xff\xff\xff\xff\xff",
+    ),
+];
+
+#[test]
+fn numbers(rt: HostRuntime) -> Result<(), AllocError> {
+    for (dtype, z, bytes) in NUMBERS_OF_TYPES {
+        assert!(rt; is_number(rt.alloc(), dtype, z, bytes)?);
     }
     Ok(())
 }
