@@ -1,3 +1,4 @@
 pub mod RowRecords
+pub mod RowText
 pub mod ReadBack
 pub mod FieldsApart

@@ -1,5 +1,4 @@
 -- Why a text was not made.
-use Rattle.std.specs.Prelude.{Bool}
 use Rattle.std.specs.IoError.{error_kind}
 use Rattle.std.specs.declared.io.ErrorKind.{ErrorKind as IoKind}
 use Rattle.std.specs.declared.io.ErrorKind.TheVariants as io

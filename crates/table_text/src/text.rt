@@ -5,10 +5,10 @@ ghost use Rattle.table_text.specs.Records.{row_record, settings, table_records, 
 ghost use Rattle.table_text.specs.Writers.{IsBetweenRecords, text_so_far};
 
 use crate::TextError;
-use crate::records::{fill_header, fill_row};
-use crate::writer::{record_writer, write_record, written_text};
+use crate::records::{write_header, write_row};
+use crate::writer::{record_writer, written_text};
 use col_core::{Blob, Frame};
-use csv::{ByteRecord, Writer};
+use csv::Writer;
 use std::alloc::Global;
 
 /// The text of a table: its header, and one record a row, in row order.
@@ -17,7 +17,7 @@ use std::alloc::Global;
 /// first field of each record is `mark`. The header has the names of the columns, and each other
 /// record the values of a row: `\N` for a null, whole numbers in decimal, bytes in lower-case
 /// hexadecimal, and a text with one more `\` in front if it begins with one. It takes memory for
-/// the text and for one record at a time.
+/// the text and for one field at a time.
 pub fn frame_text(alloc: Global, mark: &str, frame: &Frame) -> Result<Blob, TextError>
     ensures { IfOk result (λ text. text ≡ records_text (table_records mark.now frame.now)) }
 {
@@ -50,10 +50,8 @@ pub fn record_text(alloc: Global, mark: &str, table: &Frame, i: usize) -> Result
         (row_record mark.now table.now.schema (slice_index_or table.now.rows i []))) }
 {
     let mut writer = record_writer(alloc);
-    let mut record = ByteRecord::new(alloc);
     let mut spare = Vec::new(alloc);
-    fill_row(&mut record, &mut spare, mark, table, i)?;
-    write_record(&mut writer, &record)?;
+    write_row(&mut writer, &mut spare, mark, table, i)?;
     Ok(Blob::from_vec(written_text(writer)?))
 }
 
@@ -69,13 +67,10 @@ fn write_table(
     ensures text { OnOk result (text_so_far writer.new ≡
         text_so_far writer.old ++ records_text (table_records mark.now table.now)) }
 {
-    let mut record = ByteRecord::new(alloc);
     let mut spare = Vec::new(alloc);
-    fill_header(&mut record, mark, table.schema())?;
-    write_record(writer, &record)?;
+    write_header(writer, mark, table.schema())?;
     for i in 0..table.height() {
-        fill_row(&mut record, &mut spare, mark, table, i)?;
-        write_record(writer, &record)?;
+        write_row(writer, &mut spare, mark, table, i)?;
     }
     Ok(())
 }
