@@ -1,48 +1,7 @@
-//! Arrays: built of items, taken at indexes, and appended to another.
-use col_arrays::{BinaryArray, BooleanArray, IdxSize, PrimitiveArray};
+//! Arrays built of items, of parts, and taken at indexes.
+use col_arrays::{BinaryArray, BooleanArray, IdxSize};
 use std::alloc::{AllocError, Global};
 use std::process::Abort;
-
-// Numbers, and nulls over 0.
-fn numbers(alloc: Global, items: &[Option<i64>]) -> Result<PrimitiveArray<i64>, AllocError> {
-    let mut built = PrimitiveArray::new(alloc);
-    for item in items {
-        match item {
-            Some(number) => built.push(*number, true)?,
-            None => built.push_null()?,
-        }
-    }
-    Ok(built)
-}
-
-// Compares each number, or null, with the one that is wanted.
-fn expect_numbers(rt: &impl Abort, numbers: &PrimitiveArray<i64>, wanted: &[Option<i64>]) {
-    assert!(rt; numbers.len() == wanted.len());
-    for (i, number) in wanted.iter().enumerate() {
-        assert!(rt; numbers.get(i) == *number);
-    }
-}
-
-// The numbers of a range appended to all.
-fn longer_numbers(
-    rt: &impl Abort,
-    mut all: PrimitiveArray<i64>,
-    source: &PrimitiveArray<i64>,
-    start: usize,
-    len: usize,
-) -> Result<PrimitiveArray<i64>, AllocError> {
-    assert!(rt; start <= source.len() && len <= source.len() - start);
-    all.extend_from_range(source, start, len)?;
-    Ok(all)
-}
-
-#[test]
-fn some_numbers(rt: HostRuntime) -> Result<(), AllocError> {
-    let source = numbers(rt.alloc(), &[Some(5), None, Some(7)])?;
-    let all = longer_numbers(&rt, numbers(rt.alloc(), &[Some(3)])?, &source, 1, 2)?;
-    expect_numbers(&rt, &all, &[Some(3), None, Some(7)]);
-    Ok(())
-}
 
 // Truth values, and nulls over false.
 fn truths(alloc: Global, items: &[Option<bool>]) -> Result<BooleanArray, AllocError> {

@@ -7,3 +7,5 @@ mod arrays;
 mod bits;
 #[cfg(test)]
 mod numbers;
+#[cfg(test)]
+mod ranges;
