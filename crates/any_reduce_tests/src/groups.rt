@@ -23,7 +23,7 @@ fn grouped<R: GroupedReduction>(
 }
 
 /// What a kind of reduction gives so.
-fn reduced(alloc: Global, kind: ReductionKind, values: &Series) -> Result<Series, AllocError> {
+pub fn reduced(alloc: Global, kind: ReductionKind, values: &Series) -> Result<Series, AllocError> {
     if values.len() != 5 {
         return Err(AllocError);
     }

@@ -2,8 +2,16 @@
 #![tactic(auto)]
 
 #[cfg(test)]
+mod bytes;
+#[cfg(test)]
 mod columns;
 #[cfg(test)]
 mod groups;
 #[cfg(test)]
+mod merged;
+#[cfg(test)]
 mod numbers;
+#[cfg(test)]
+mod parts;
+#[cfg(test)]
+mod types;
