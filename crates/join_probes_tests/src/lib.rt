@@ -1,5 +1,5 @@
-//! Tests of `join_probes`: the pairs of small frames, and the build rows that are left, under many
-//! plans.
+//! Tests of `join_probes` and of `join_rows` over it: the pairs of small frames, the build rows that
+//! are left, and the joined rows, under many plans.
 #![tactic(auto)]
 
 #[cfg(test)]

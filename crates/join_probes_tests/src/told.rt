@@ -5,9 +5,10 @@ ghost use Rattle.join_probes.specs.Keys.{AllHave};
 ghost use Rattle.join_probes.specs.Probed.{CanJoin};
 
 use crate::sides::{frame, query};
-use col_core::{Frame, RowPlace};
+use col_core::{Frame, LeafRef, RowPlace, Series};
 use join_model::{Plan, Query};
 use join_probes::{Pair, ProbeError, build_tables, probe_morsel, unmatched_rows};
+use pair_rows::join_rows;
 use query_check::check_query;
 use std::alloc::Global;
 use std::marker::Brand;
@@ -62,7 +63,32 @@ fn text_of(alloc: Global, pairs: &[Pair], left: &[RowPlace]) -> Result<String, F
     for place in left {
         text.push_str(place_text(alloc, *place)?.as_str())?;
     }
+    text.push_str("/ ")?;
     Ok(text)
+}
+
+/// Appends a number and a space, or a stroke for a null.
+fn push_number(alloc: Global, text: &mut String, value: LeafRef<'_>) -> Result<(), Fail> {
+    match value {
+        LeafRef::Whole(number) => Ok(text.push_str(format!(in alloc; "{number} ")?.as_str())?),
+        _ => Ok(text.push_str("- ")?),
+    }
+}
+
+/// Appends the columns of joined rows, one after the other.
+fn push_columns(alloc: Global, text: &mut String, joined: &Frame) -> Result<(), Fail> {
+    for column in joined.columns() {
+        push_column(alloc, text, column)?;
+    }
+    Ok(())
+}
+
+/// Appends the numbers of a column, and a semicolon.
+fn push_column(alloc: Global, text: &mut String, column: &Series) -> Result<(), Fail> {
+    for i in 0..column.len() {
+        push_number(alloc, text, column.leaf_ref(i))?;
+    }
+    Ok(text.push_str("; ")?)
 }
 
 fn told_of<L: Ledger>(
@@ -94,7 +120,10 @@ fn told_of<L: Ledger>(
     ) {
         Ok(pairs) => {
             let left = unmatched_rows(alloc, query, &built)?;
-            text_of(alloc, pairs.as_slice(), left.as_slice())
+            let mut text = text_of(alloc, pairs.as_slice(), left.as_slice())?;
+            let joined = join_rows(alloc, query, morsel, build, pairs.as_slice())?;
+            push_columns(alloc, &mut text, &joined)?;
+            Ok(text)
         }
         Err(ProbeError::TooLarge) => Ok(String::from_str(alloc, "too large")?),
         Err(ProbeError::Memory) => Err(Fail::from("memory")),
@@ -113,28 +142,46 @@ fn told(alloc: Global, query: &Query, most: u32) -> Result<String, Fail> {
 }
 
 /// The columns of the key, whether nulls join, whether lone rows are kept, how many pairs there may
-/// be, and what is told.
+/// be, and what is told: the pairs, the build rows that are left, and the columns of the joined rows.
 type Case<'a> = (&'a [&'a str], bool, bool, u32, &'a str);
 
 const CASES: [Case; 7] = [
-    (&["x"], false, false, 3, "0-0.0 0-1.0 2-0.1 / 0.2 1.1 "),
+    (
+        &["x"],
+        false,
+        false,
+        3,
+        "0-0.0 0-1.0 2-0.1 / 0.2 1.1 / 1 1 2 ; 10 10 21 ; 1 1 2 ; 10 11 20 ; ",
+    ),
     (&["x"], false, false, 2, "too large"),
     (
         &["x"],
         false,
         true,
         9,
-        "0-0.0 0-1.0 1-none 2-0.1 3-none / 0.2 1.1 ",
+        "0-0.0 0-1.0 1-none 2-0.1 3-none / 0.2 1.1 / 1 1 3 2 - ; 10 10 20 21 30 ; 1 1 - 2 - ; 10 11 - 20 - ; ",
     ),
-    (&["x"], true, false, 9, "0-0.0 0-1.0 2-0.1 3-0.2 3-1.1 / "),
-    (&["x", "y"], true, false, 3, "0-0.0 3-0.2 3-1.1 / 0.1 1.0 "),
+    (
+        &["x"],
+        true,
+        false,
+        9,
+        "0-0.0 0-1.0 2-0.1 3-0.2 3-1.1 / / 1 1 2 - - ; 10 10 21 30 30 ; 1 1 2 - - ; 10 11 20 30 30 ; ",
+    ),
+    (
+        &["x", "y"],
+        true,
+        false,
+        3,
+        "0-0.0 3-0.2 3-1.1 / 0.1 1.0 / 1 - - ; 10 30 30 ; 1 - - ; 10 30 30 ; ",
+    ),
     (&["x", "y"], true, false, 2, "too large"),
     (
         &["x", "y"],
         false,
         true,
         4,
-        "0-0.0 1-none 2-none 3-none / 0.1 0.2 1.0 1.1 ",
+        "0-0.0 1-none 2-none 3-none / 0.1 0.2 1.0 1.1 / 1 3 2 - ; 10 20 21 30 ; 1 - - - ; 10 - - - ; ",
     ),
 ];
 
